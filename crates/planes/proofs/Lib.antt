@@ -1,0 +1,9 @@
+pub mod Words
+pub mod Planes
+pub mod Lanes
+pub mod Fill
+pub mod Extend
+pub mod Top
+pub mod Shift
+pub mod Splice
+pub mod Checks

@@ -1,0 +1,36 @@
+-- `planes::extract64`: refused as checked, else by the inner function.
+use mathlib.Core.Path.{_≡_, sym, ap, _∙_}
+use Rattle.refusal.specs.Outcome.{verdict}
+use Rattle.planes.proofs.Checks.{planes-accepted}
+use borrow.Author.Needs.{needs}
+use Rattle.planes.proofs.extract64.Statement.{statement}
+use Rattle.planes.proofs.extract64.Tie as tie
+
+check-planes-requires : tie.Need-check-planes-requires
+check-planes-requires c κs = search needs
+
+enum-known-r : tie.Need-enum-known-r
+enum-known-r c = search needs
+
+enum-told : tie.Need-enum-told
+enum-told c = search needs
+
+extract64-requires : tie.Need-extract64-requires
+extract64-requires c κs =
+    let h = planes-accepted _ _ (sym (c .before .before .check-planes .ensures) ∙ ap verdict (c .enum-told .given .1)) in
+    (h .value-plane, h .unknown-plane)
+
+returns : tie.Need-returns
+returns c =
+    let t = c .before in
+    simp (sym (t .before .before .check-planes .ensures) ∙ ap verdict (t .r .given .1))
+
+returns-2 : tie.Need-returns-2
+returns-2 c =
+    let t = c .before in
+    simp (sym (t .before .before .check-planes .ensures) ∙ ap verdict (t .enum-told .given .1), c .extract64 .ensures)
+
+pub extract64-spec : {M : Type 1} → statement M
+extract64-spec =
+    tie.close
+    (tie.spec check-planes-requires enum-known-r enum-told extract64-requires returns returns-2)

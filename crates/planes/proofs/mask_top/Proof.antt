@@ -1,0 +1,71 @@
+-- `planes::mask_top`: refused as checked, else each plane is masked.
+use Rattle.refusal.specs.Outcome.Answer.{given}
+use Rattle.planes.specs.Entries.{Planes, lent}
+use mathlib.Core.Path.{_≡_, sym, ap, ap₂, _∙_}
+use mathlib.Core.List.{List}
+use Prim.Native.Nat.{ℕ}
+use Rattle.refusal.specs.Outcome.{outcome, verdict}
+use Rattle.planes.proofs.Checks.{lengths-accepted}
+use borrow.Author.Needs.{needs}
+use Rattle.planes.proofs.mask_top.Statement.{statement}
+use Rattle.planes.proofs.mask_top.Tie as tie
+
+check-lengths-requires : tie.Need-check-lengths-requires
+check-lengths-requires c κs = search needs
+
+enum-known-r : tie.Need-enum-known-r
+enum-known-r c = search needs
+
+enum-told : tie.Need-enum-told
+enum-told c = search needs
+
+mask-plane-requires : tie.Need-mask-plane-requires
+mask-plane-requires c κs =
+    let t = c .before in
+    lengths-accepted _ _ (sym (t .before .before .check-lengths .ensures) ∙ ap verdict (t .enum-told .given .1)) .value-length
+
+mask-plane-requires-2 : tie.Need-mask-plane-requires-2
+mask-plane-requires-2 c κs =
+    let t = c .before .before .before .before .before in
+    lengths-accepted _ _ (sym (t .before .before .check-lengths .ensures) ∙ ap verdict (t .enum-told .given .1)) .unknown-length
+
+same-length : tie.Need-same-length
+same-length c = search needs
+
+same-length-2 : tie.Need-same-length-2
+same-length-2 c = search needs
+
+returns : tie.Need-returns
+returns c =
+    let t = c .before in
+    simp (sym (t .before .before .check-lengths .ensures) ∙ ap verdict (t .r .given .1))
+
+same-length-3 : tie.Need-same-length-3
+same-length-3 c = search needs
+
+same-length-4 : tie.Need-same-length-4
+same-length-4 c = search needs
+
+returns-2 : tie.Need-returns-2
+returns-2 c =
+    let second = c .before .before in
+    let first = second .before .before .before .before in
+    let t = first .before .before in
+    simp (sym (t .before .before .check-lengths .ensures) ∙ ap verdict (t .enum-told .given .1))
+    (ap₂ (λ (v u : List ℕ). outcome {A = Unit} (given tt) (lent v u)) (first .mask-plane .ensures) (second .mask-plane2 .ensures))
+
+pub mask-top-spec : {M : Type 1} → statement M
+mask-top-spec =
+    tie.close
+    (tie.spec
+    check-lengths-requires
+    enum-known-r
+    enum-told
+    mask-plane-requires
+    mask-plane-requires-2
+    same-length
+    same-length-2
+    returns
+    same-length-3
+    same-length-4
+    returns-2)

@@ -1,0 +1,63 @@
+-- `planes::splice64`: refused as checked, else by the inner function.
+use Rattle.refusal.specs.Outcome.Answer.{given}
+use Rattle.planes.specs.Entries.{Planes}
+use mathlib.Core.Path.{_≡_, sym, ap, _∙_}
+use Rattle.refusal.specs.Outcome.{outcome, verdict}
+use Rattle.planes.proofs.Checks.{planes-accepted}
+use borrow.Author.Needs.{needs}
+use Rattle.planes.proofs.splice64.Statement.{statement}
+use Rattle.planes.proofs.splice64.Tie as tie
+
+check-planes-requires : tie.Need-check-planes-requires
+check-planes-requires c κs = search needs
+
+enum-known-r : tie.Need-enum-known-r
+enum-known-r c = search needs
+
+enum-told : tie.Need-enum-told
+enum-told c = search needs
+
+splice64-requires : tie.Need-splice64-requires
+splice64-requires c κs =
+    let t = c .before .before in
+    let h = planes-accepted _ _ (sym (t .before .before .check-planes .ensures) ∙ ap verdict (t .enum-told .given .1)) in
+    (h .value-plane, h .unknown-plane)
+
+same-length : tie.Need-same-length
+same-length c = search needs
+
+same-length-2 : tie.Need-same-length-2
+same-length-2 c = search needs
+
+returns : tie.Need-returns
+returns c =
+    let t = c .before in
+    simp (sym (t .before .before .check-planes .ensures) ∙ ap verdict (t .r .given .1))
+
+same-length-3 : tie.Need-same-length-3
+same-length-3 c = search needs
+
+same-length-4 : tie.Need-same-length-4
+same-length-4 c = search needs
+
+returns-2 : tie.Need-returns-2
+returns-2 c =
+    let x = c .before .before .before .before in
+    let t = x .before .before .before in
+    simp (sym (t .before .before .check-planes .ensures) ∙ ap verdict (t .enum-told .given .1))
+    (ap (λ (p : Planes). outcome {A = Unit} (given tt) p) (x .splice64 .ensures))
+
+pub splice64-spec : {M : Type 1} → statement M
+splice64-spec =
+    tie.close
+    (tie.spec
+    check-planes-requires
+    enum-known-r
+    enum-told
+    splice64-requires
+    same-length
+    same-length-2
+    returns
+    same-length-3
+    same-length-4
+    returns-2)

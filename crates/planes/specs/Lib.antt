@@ -1,0 +1,3 @@
+pub mod Vector
+pub mod Planes
+pub mod Entries

@@ -1,0 +1,194 @@
+// A vector's header and the operand of equality and truth, their checks, the constructors, and how an operator of two operands reads each
+// of them: extended to the larger width, a fill stretched or not.
+use bit::LogicBit;
+use planes::MAX_WIDTH;
+use refusal::{Refusal, Verdict};
+ghost use mathlib.Core.Path.{_≡_};
+ghost use Prim.Native.Nat.{_≤_};
+ghost use mathlib.Core.List.{[], _∷_};
+ghost use lib.ListN.{getD};
+ghost use Rattle.refusal.specs.Outcome.{outcome, verdict};
+ghost use Rattle.planes.specs.Planes.{fromPlanes};
+ghost use Rattle.planes.specs.Entries.{lent};
+ghost use Rattle.value.specs.Checks.{checkVector, checkOperand, checkOutput, vectorAnswer};
+ghost use Rattle.value.specs.Constructors.{clamped, plain, constructed, newVector, zeroVector, fromU64};
+ghost use Rattle.value.specs.Extension as extension;
+
+pub mod inner;
+
+pub struct Header {
+    pub width: u32,
+    pub is_signed: bool,
+    pub is_fill: bool,
+}
+
+// A vector's header, or a real; the planes come beside it, empty for a real.
+pub enum Operand {
+    Vector(Header),
+    Real(f64),
+}
+
+// The header of a vector that was written into lent planes.
+pub enum VectorAnswer {
+    Vector(Header),
+    Refused(Refusal),
+}
+
+// Operators that take two operands side by side.
+pub enum Operator {
+    And,
+    Or,
+    Xor,
+    Merge,
+    Equal,
+    CaseEqual,
+    CasezEqual,
+    CasexEqual,
+    WildcardEqual,
+}
+
+// An operand at any place: below the width its planes' bits, from there on the bit `beyond`.
+pub struct Extent {
+    pub width: u32,
+    pub beyond: LogicBit,
+}
+
+// Whether a vector may be an operand: 1, 2, 3, then 4.
+pub fn check_vector(h: Header, value: &[u64], unknown: &[u64]) -> Verdict
+    ensures { λ r. ⌜ verdict r ≡ checkVector h (lent (now (value .entry)) (now (unknown .entry))) ⌝ }
+{
+    let width = h.width;
+    match planes::check_planes(width, value, unknown) {
+        Verdict::Refused(r) => Verdict::Refused(r),
+        Verdict::Accepted => {
+            if h.is_fill {
+                if width == 0 {
+                    return Verdict::Refused(Refusal::EmptyFill);
+                }
+            }
+            Verdict::Accepted
+        }
+    }
+}
+
+// Whether an operand is in order: a vector by 1 to 4, a real by 2 if a plane is not empty.
+pub fn check_operand(o: Operand, value: &[u64], unknown: &[u64]) -> Verdict
+    ensures { λ r. ⌜ verdict r ≡ checkOperand o (lent (now (value .entry)) (now (unknown .entry))) ⌝ }
+{
+    match o {
+        Operand::Vector(h) => check_vector(h, value, unknown),
+        Operand::Real(_) => {
+            if value.len() != 0 {
+                return Verdict::Refused(Refusal::PlaneLength);
+            }
+            if unknown.len() != 0 {
+                return Verdict::Refused(Refusal::PlaneLength);
+            }
+            Verdict::Accepted
+        }
+    }
+}
+
+// Whether output planes are exactly the words of a result of that width, or 5.
+pub fn check_output(width: u32, value: &[u64], unknown: &[u64]) -> Verdict
+    ensures { λ r. ⌜ verdict r ≡ checkOutput width (lent (now (value .entry)) (now (unknown .entry))) ⌝ }
+{
+    let n = planes::word_count(width);
+    if value.len() != n {
+        return Verdict::Refused(Refusal::OutputLength);
+    }
+    if unknown.len() != n {
+        return Verdict::Refused(Refusal::OutputLength);
+    }
+    Verdict::Accepted
+}
+
+// A width above the widest vector's becomes that.
+pub fn cap_width(width: u32) -> u32
+    ensures { λ r. ⌜ r ≡ clamped width ⌝ }
+{
+    if MAX_WIDTH < width { MAX_WIDTH } else { width }
+}
+
+// The header of an unsigned vector that is no fill.
+pub fn plain_header(width: u32) -> Header
+    ensures { λ r. ⌜ r ≡ plain width ⌝ }
+{
+    Header {
+        width: width,
+        is_signed: false,
+        is_fill: false,
+    }
+}
+
+// A vector at a clamped width: its low bits are the `count` low bits of a number, and every further bit is `beyond`.
+fn construct(width: u32, value: &mut [u64], unknown: &mut [u64], val: u64, count: u32, beyond: LogicBit) -> VectorAnswer
+    requires { ⌜ count ≤ 64 ⌝ }
+    ensures { λ r. ⌜ outcome (vectorAnswer r) (lent (now (value .exit)) (now (unknown .exit))) ≡ constructed width (λ i. getD (fromPlanes count (val ∷ []) (0 ∷ [])) i beyond) (lent (now (value .entry)) (now (unknown .entry))) ⌝ }
+{
+    let w = cap_width(width);
+    match check_output(w, value, unknown) {
+        Verdict::Refused(r) => VectorAnswer::Refused(r),
+        Verdict::Accepted => {
+            let low = [val];
+            let none = [0u64];
+            planes::inner::extend_into(w, value, unknown, &low, &none, count, beyond);
+            VectorAnswer::Vector(plain_header(w))
+        }
+    }
+}
+
+// All x, at a clamped width.
+pub fn new(width: u32, value: &mut [u64], unknown: &mut [u64]) -> VectorAnswer
+    ensures { λ r. ⌜ outcome (vectorAnswer r) (lent (now (value .exit)) (now (unknown .exit))) ≡ newVector width (lent (now (value .entry)) (now (unknown .entry))) ⌝ }
+{
+    construct(width, value, unknown, 0, 0, LogicBit::X)
+}
+
+// All 0, at a clamped width.
+pub fn zero(width: u32, value: &mut [u64], unknown: &mut [u64]) -> VectorAnswer
+    ensures { λ r. ⌜ outcome (vectorAnswer r) (lent (now (value .exit)) (now (unknown .exit))) ≡ zeroVector width (lent (now (value .entry)) (now (unknown .entry))) ⌝ }
+{
+    construct(width, value, unknown, 0, 0, LogicBit::Zero)
+}
+
+// The bits of a number, at a clamped width.
+pub fn from_u64(val: u64, width: u32, value: &mut [u64], unknown: &mut [u64]) -> VectorAnswer
+    ensures { λ r. ⌜ outcome (vectorAnswer r) (lent (now (value .exit)) (now (unknown .exit))) ≡ fromU64 val width (lent (now (value .entry)) (now (unknown .entry))) ⌝ }
+{
+    construct(width, value, unknown, val, 64, LogicBit::Zero)
+}
+
+// Whether the operator first stretches a fill: all its bits become its bit 0, and it is then unsigned.
+pub fn stretches(op: Operator) -> bool
+    ensures { λ r. ⌜ r ≡ extension.stretches op ⌝ }
+{
+    match op {
+        Operator::And => true,
+        Operator::Or => true,
+        Operator::Xor => true,
+        Operator::Merge => false,
+        Operator::Equal => true,
+        Operator::CaseEqual => true,
+        Operator::CasezEqual => true,
+        Operator::CasexEqual => true,
+        Operator::WildcardEqual => false,
+    }
+}
+
+// Whether the operator extends two signed operands by their top bits; else the extension is 0.
+pub fn extends_by_top(op: Operator) -> bool
+    ensures { λ r. ⌜ r ≡ extension.extendsByTop op ⌝ }
+{
+    match op {
+        Operator::And => false,
+        Operator::Or => false,
+        Operator::Xor => false,
+        Operator::Merge => false,
+        Operator::Equal => true,
+        Operator::CaseEqual => true,
+        Operator::CasezEqual => true,
+        Operator::CasexEqual => true,
+        Operator::WildcardEqual => true,
+    }
+}
