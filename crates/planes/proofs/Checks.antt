@@ -8,9 +8,10 @@ use lib.Dec.{T, eqb, ltb}
 use lib.ListN.{length}
 use Rattle.refusal.specs.Outcome.{Answer, after}
 use Rattle.refusal.specs.Outcome.Answer.{given, refused}
-use Rattle.planes.specs.Planes.{wordCount, clearAbove, Plane}
-use Rattle.planes.specs.Entries.{Planes, maxWidth, exactly, checkLengths, checkPlanes}
-use Rattle.planes.proofs.Top.{all-clear}
+use Rattle.words.specs.Planes.{wordCount, clearAbove, Plane}
+use Rattle.words.specs.Planes.{Planes}
+use Rattle.planes.specs.Entries.{maxWidth, exactly, checkLengths, checkPlanes}
+use Rattle.words.proofs.Top.{all-clear}
 
 pub exactly-accepted : (n : ℕ) (p : Planes) (k : ℕ) → exactly n p k ≡ given tt → (length (p .value) ≡ n) × (length (p .unknown) ≡ n)
 exactly-accepted n p k h = go (eqb (length (p .value)) n) refl (eqb (length (p .unknown)) n) refl h

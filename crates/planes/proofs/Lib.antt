@@ -1,9 +1,3 @@
-pub mod Words
-pub mod Planes
-pub mod Lanes
-pub mod Fill
-pub mod Extend
-pub mod Top
-pub mod Shift
+pub mod Put
 pub mod Splice
 pub mod Checks

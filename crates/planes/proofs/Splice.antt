@@ -16,13 +16,14 @@ use lib.Seq.{getD-set-same, getD-set-other, set-out}
 use lib.Bits.{bitAnd}
 use Rattle.bit.specs.declared.LogicBit.{LogicBit}
 use Rattle.bit.specs.declared.LogicBit.the-variants.{Zero}
-use Rattle.planes.specs.declared.Word.{Word}
-use Rattle.planes.specs.Vector.{bitAt, tabulate, pack, at}
-use Rattle.planes.specs.Planes.{valueDigit, unknownDigit, stored, wordCount, planeBit, fromPlanes, wordOf, planeOf, packed, bitOf, Plane}
-use Rattle.planes.specs.Entries.{Planes, lent, planesOf, within, spliceCount, spliced, splicedPlane, extracted}
-use Rattle.planes.proofs.Words.{bit-lt, pack-bit, pack-cong, lt-or-ge}
-use Rattle.planes.proofs.Planes.{length-tabulate, getD-tabulate, getD-tabulate-out, eq-tabulate, value-digit-lt, unknown-digit-lt, stored-bit, value-again, unknown-again, whole}
-use Rattle.planes.proofs.Extend.{cut}
+use Rattle.words.specs.declared.Word.{Word}
+use Rattle.words.specs.Vector.{bitAt, tabulate, pack, at}
+use Rattle.words.specs.Planes.{valueDigit, unknownDigit, stored, wordCount, planeBit, fromPlanes, wordOf, planeOf, packed, bitOf, Plane}
+use Rattle.words.specs.Planes.{Planes, lent, planesOf}
+use Rattle.planes.specs.Entries.{within, spliceCount, spliced, splicedPlane, extracted}
+use Rattle.words.proofs.Digits.{bit-lt, pack-bit, pack-cong, lt-or-ge}
+use Rattle.words.proofs.Planes.{length-tabulate, getD-tabulate, getD-tabulate-out, eq-tabulate, value-digit-lt, unknown-digit-lt, stored-bit, value-again, unknown-again, whole}
+use Rattle.words.proofs.Extend.{cut}
 
 pub ap-cond : {A B : Type 0} (f : A → B) (b : Bool) (x y : A) → f (cond b x y) ≡ cond b (f x) (f y)
 ap-cond f true x y = refl

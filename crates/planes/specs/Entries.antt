@@ -9,27 +9,13 @@ use Rattle.bit.specs.declared.LogicBit.the-variants.{Zero}
 use Rattle.refusal.specs.Refusals.{refusalNumber}
 use Rattle.refusal.specs.Outcome.{Answer, Outcome, outcome, after, orRefuse}
 use Rattle.refusal.specs.Outcome.Answer.{given, refused}
-use Rattle.planes.specs.declared.Word.{Word}
+use Rattle.words.specs.declared.Word.{Word}
 use Rattle.planes.specs.declared.BitAnswer.{BitAnswer}
 use Rattle.planes.specs.declared.BitAnswer.the-variants as bit-answer
 use Rattle.planes.specs.declared.WordAnswer.{WordAnswer}
 use Rattle.planes.specs.declared.WordAnswer.the-variants as word-answer
-use Rattle.planes.specs.Vector.{tabulate, at, bitAt, pack}
-use Rattle.planes.specs.Planes.{wordCount, planeBit, fromPlanes, valuePlane, unknownPlane, clearAbove, cleared, packed, bitOf}
-
--- the two planes that a call is lent
-pub record Planes : Type 0 where
-  pub value : List ℕ
-  pub unknown : List ℕ
-
-abbrev pub lent : List ℕ → List ℕ → Planes
-lent v u = record { value = v; unknown = u }
-
-abbrev pub vectorOf : ℕ → Planes → List LogicBit
-vectorOf w p = fromPlanes w (p .value) (p .unknown)
-
-abbrev pub planesOf : List LogicBit → Planes
-planesOf bs = lent (valuePlane bs) (unknownPlane bs)
+use Rattle.words.specs.Vector.{tabulate, at, bitAt, pack}
+use Rattle.words.specs.Planes.{wordCount, planeBit, clearAbove, masked, packed, bitOf, Planes, lent, vectorOf, planesOf}
 
 -- the answers in the paper's numbers
 abbrev pub bitAnswer : BitAnswer → Answer LogicBit
@@ -104,10 +90,6 @@ extracted bs pos n = packed (λ j. cond (ltb j n) (at bs (pos + j)) Zero)
 abbrev pub extractBits : ℕ → Planes → ℕ → ℕ → Answer Word
 extractBits w p pos n = after (checkPlanes w p) (given (extracted (vectorOf w p) pos n))
 
--- `mask_top` clears the bits at or above the width; at width 0 it clears none
-abbrev pub masked : ℕ → List ℕ → List ℕ
-masked zero p = p
-masked (suc w) p = cleared (suc w) p
-
+-- `mask_top`
 abbrev pub maskTop : ℕ → Planes → Outcome Unit Planes
 maskTop w p = orRefuse (checkLengths w p) p (outcome (given tt) (lent (masked w (p .value)) (masked w (p .unknown))))

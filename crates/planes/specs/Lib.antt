@@ -1,3 +1,1 @@
-pub mod Vector
-pub mod Planes
 pub mod Entries

@@ -1,22 +1,18 @@
 // A vector as two lent planes of 64-bit words, value and unknown. Bit i is bit i mod 64 of word i div 64 of each plane: 0 is stored as (0,0),
 // 1 as (1,0), x as (0,1) and z as (1,1). Bits at or above the width are 0.
 use bit::LogicBit;
-use refusal::{Refusal, Verdict};
+use refusal::Refusal;
+use refusal::Verdict;
+use words::Word;
 ghost use mathlib.Core.Path.{_≡_};
 ghost use Rattle.refusal.specs.Outcome.{outcome, verdict};
-ghost use Rattle.planes.specs.Planes.{wordCount};
-ghost use Rattle.planes.specs.Entries.{lent, bitAnswer, wordAnswer, checkLengths, checkPlanes, getBit, setBit, spliceBits, extractBits, maskTop};
+ghost use Rattle.words.specs.Planes.{lent};
+ghost use Rattle.planes.specs.Entries.{bitAnswer, wordAnswer, checkLengths, checkPlanes, getBit, setBit, spliceBits, extractBits, maskTop};
 
 pub mod inner;
 
 // The widest vector.
 pub const MAX_WIDTH: u32 = 1_048_576;
-
-// A word of the value plane and the word of the unknown plane beside it.
-pub struct Word {
-    pub value: u64,
-    pub unknown: u64,
-}
 
 pub enum BitAnswer {
     Bit(LogicBit),
@@ -28,17 +24,6 @@ pub enum WordAnswer {
     Refused(Refusal),
 }
 
-// How many words a plane of `width` bits has: the larger of 1 and width / 64, rounded up.
-pub fn word_count(width: u32) -> usize
-    ensures { λ r. ⌜ r ≡ wordCount width ⌝ }
-{
-    let w = width as usize;
-    if w == 0 {
-        return 1;
-    }
-    (w - 1) / 64 + 1
-}
-
 // Whether the width and the planes' lengths are in order: 1, then 2.
 pub fn check_lengths(width: u32, value: &[u64], unknown: &[u64]) -> Verdict
     ensures { λ r. ⌜ verdict r ≡ checkLengths width (lent (now (value .entry)) (now (unknown .entry))) ⌝ }
@@ -46,7 +31,7 @@ pub fn check_lengths(width: u32, value: &[u64], unknown: &[u64]) -> Verdict
     if MAX_WIDTH < width {
         return Verdict::Refused(Refusal::TooWide);
     }
-    let n = word_count(width);
+    let n = words::word_count(width);
     if value.len() != n {
         return Verdict::Refused(Refusal::PlaneLength);
     }
@@ -63,10 +48,10 @@ pub fn check_planes(width: u32, value: &[u64], unknown: &[u64]) -> Verdict
     match check_lengths(width, value, unknown) {
         Verdict::Refused(r) => Verdict::Refused(r),
         Verdict::Accepted => {
-            if !inner::is_clear(value, width) {
+            if !words::inner::is_clear(value, width) {
                 return Verdict::Refused(Refusal::BitAboveWidth);
             }
-            if !inner::is_clear(unknown, width) {
+            if !words::inner::is_clear(unknown, width) {
                 return Verdict::Refused(Refusal::BitAboveWidth);
             }
             Verdict::Accepted
@@ -91,7 +76,7 @@ pub fn set(width: u32, value: &mut [u64], unknown: &mut [u64], i: usize, bit: Lo
     match check_planes(width, value, unknown) {
         Verdict::Refused(r) => Verdict::Refused(r),
         Verdict::Accepted => {
-            let b = inner::filled(bit);
+            let b = words::inner::filled(bit);
             inner::splice64(width, value, unknown, i, b, 1);
             Verdict::Accepted
         }
@@ -99,7 +84,14 @@ pub fn set(width: u32, value: &mut [u64], unknown: &mut [u64], i: usize, bit: Lo
 }
 
 // Puts the lowest bits of a word in from `pos` on: the least of n, 64 and the width minus `pos` of them.
-pub fn splice64(width: u32, value: &mut [u64], unknown: &mut [u64], pos: usize, bits: Word, n: usize) -> Verdict
+pub fn splice64(
+    width: u32,
+    value: &mut [u64],
+    unknown: &mut [u64],
+    pos: usize,
+    bits: Word,
+    n: usize,
+) -> Verdict
     ensures { λ r. ⌜ outcome (verdict r) (lent (now (value .exit)) (now (unknown .exit))) ≡ spliceBits width (lent (now (value .entry)) (now (unknown .entry))) pos bits n ⌝ }
 {
     match check_planes(width, value, unknown) {
@@ -128,8 +120,8 @@ pub fn mask_top(width: u32, value: &mut [u64], unknown: &mut [u64]) -> Verdict
     match check_lengths(width, value, unknown) {
         Verdict::Refused(r) => Verdict::Refused(r),
         Verdict::Accepted => {
-            inner::mask_plane(value, width);
-            inner::mask_plane(unknown, width);
+            words::inner::mask_plane(value, width);
+            words::inner::mask_plane(unknown, width);
             Verdict::Accepted
         }
     }

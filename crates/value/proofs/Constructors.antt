@@ -10,13 +10,13 @@ use Rattle.bit.specs.declared.LogicBit.{LogicBit}
 use Rattle.bit.specs.declared.LogicBit.the-variants.{Zero}
 use Rattle.refusal.specs.Outcome.{Answer, outcome, orRefuse}
 use Rattle.refusal.specs.Outcome.Answer.{given}
-use Rattle.planes.specs.Vector.{bitAt, tabulate}
-use Rattle.planes.specs.Entries.{Planes, planesOf}
+use Rattle.words.specs.Vector.{bitAt, tabulate}
+use Rattle.words.specs.Planes.{Planes, planesOf}
 use Rattle.value.specs.Checks.{checkOutput}
 use Rattle.value.specs.Constructors.{clamped, plain, constructed}
-use Rattle.planes.specs.Planes.{fromPlanes, stored, planeBit}
-use Rattle.planes.proofs.Words.{bit-above, bit-of-zero, lt-or-ge}
-use Rattle.planes.proofs.Planes.{getD-tabulate, getD-tabulate-out}
+use Rattle.words.specs.Planes.{fromPlanes, stored, planeBit}
+use Rattle.words.proofs.Digits.{bit-above, bit-of-zero, lt-or-ge}
+use Rattle.words.proofs.Planes.{getD-tabulate, getD-tabulate-out}
 
 -- every bit is the same
 pub constant : (p q : List ℕ) (b : LogicBit) → _≡_ {A = ℕ → LogicBit} (λ i. getD (fromPlanes 0 p q) i b) (λ i. b)

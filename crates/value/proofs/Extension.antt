@@ -8,9 +8,9 @@ use Prim.Native.Nat.{ℕ}
 use lib.ListN.{getD}
 use Rattle.bit.specs.declared.LogicBit.{LogicBit}
 use Rattle.bit.specs.declared.LogicBit.the-variants.{Zero}
-use Rattle.planes.specs.Vector.{at, tabulate}
-use Rattle.planes.specs.Planes.{fromPlanes}
-use Rattle.planes.specs.Entries.{lent}
+use Rattle.words.specs.Vector.{at, tabulate}
+use Rattle.words.specs.Planes.{fromPlanes}
+use Rattle.words.specs.Planes.{lent}
 use Rattle.value.specs.declared.Header.{Header}
 use Rattle.value.specs.declared.Extent.{Extent}
 use Rattle.value.specs.declared.Operator.{Operator}

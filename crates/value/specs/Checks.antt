@@ -5,8 +5,9 @@ use lib.Dec.{eqb}
 use Rattle.refusal.specs.Refusals.{refusalNumber}
 use Rattle.refusal.specs.Outcome.{Answer, after}
 use Rattle.refusal.specs.Outcome.Answer.{given, refused}
-use Rattle.planes.specs.Planes.{wordCount}
-use Rattle.planes.specs.Entries.{Planes, exactly, checkPlanes}
+use Rattle.words.specs.Planes.{wordCount}
+use Rattle.words.specs.Planes.{Planes}
+use Rattle.planes.specs.Entries.{exactly, checkPlanes}
 use Rattle.value.specs.declared.Header.{Header}
 use Rattle.value.specs.declared.Operand.{Operand}
 use Rattle.value.specs.declared.Operand.the-variants.{Vector, Real}

@@ -6,9 +6,10 @@ use Rattle.bit.specs.declared.LogicBit.{LogicBit}
 use Rattle.bit.specs.declared.LogicBit.the-variants.{Zero, X}
 use Rattle.refusal.specs.Outcome.{Outcome, outcome, orRefuse}
 use Rattle.refusal.specs.Outcome.Answer.{given}
-use Rattle.planes.specs.Vector.{tabulate, bitAt}
-use Rattle.planes.specs.Planes.{stored}
-use Rattle.planes.specs.Entries.{Planes, planesOf, maxWidth}
+use Rattle.words.specs.Vector.{tabulate, bitAt}
+use Rattle.words.specs.Planes.{stored}
+use Rattle.words.specs.Planes.{Planes, planesOf}
+use Rattle.planes.specs.Entries.{maxWidth}
 use Rattle.value.specs.declared.Header.{Header}
 use Rattle.value.specs.Checks.{checkOutput}
 

@@ -6,8 +6,8 @@ use Prim.Native.Nat.{ℕ, _-_}
 use lib.ListN.{length, getD}
 use Rattle.bit.specs.declared.LogicBit.{LogicBit}
 use Rattle.bit.specs.declared.LogicBit.the-variants.{Zero}
-use Rattle.planes.specs.Vector.{at}
-use Rattle.planes.specs.Entries.{Planes, vectorOf}
+use Rattle.words.specs.Vector.{at}
+use Rattle.words.specs.Planes.{Planes, vectorOf}
 use Rattle.value.specs.declared.Header.{Header}
 use Rattle.value.specs.declared.Extent.{Extent}
 use Rattle.value.specs.declared.Operator.{Operator}

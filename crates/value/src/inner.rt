@@ -1,10 +1,12 @@
 // How an operand is read beside another. These ask their caller for planes of the right length.
-use crate::{Extent, Header, Operator};
+use crate::Extent;
+use crate::Header;
+use crate::Operator;
 use bit::LogicBit;
 ghost use mathlib.Core.Path.{_≡_};
 ghost use lib.ListN.{length};
-ghost use Rattle.planes.specs.Planes.{wordCount, fromPlanes};
-ghost use Rattle.planes.specs.Entries.{lent};
+ghost use Rattle.words.specs.Planes.{wordCount, fromPlanes};
+ghost use Rattle.words.specs.Planes.{lent};
 ghost use Rattle.value.specs.Extension.{vector, top, stretched, signedFor, signExtended, extentOf};
 
 // The top bit; 0 of an empty vector.
@@ -24,14 +26,22 @@ pub fn top_bit(h: Header, value: &[u64], unknown: &[u64]) -> LogicBit
 fn is_stretched(op: Operator, h: Header) -> bool
     ensures { λ r. ⌜ r ≡ stretched op h ⌝ }
 {
-    if h.is_fill { crate::stretches(op) } else { false }
+    if h.is_fill {
+        crate::stretches(op)
+    } else {
+        false
+    }
 }
 
 // Whether the operator counts a vector as signed: one that it stretches is unsigned.
 fn counts_signed(op: Operator, h: Header) -> bool
     ensures { λ r. ⌜ r ≡ signedFor op h ⌝ }
 {
-    if is_stretched(op, h) { false } else { h.is_signed }
+    if is_stretched(op, h) {
+        false
+    } else {
+        h.is_signed
+    }
 }
 
 // Whether the operator extends two operands by their top bits.

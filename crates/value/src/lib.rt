@@ -2,14 +2,15 @@
 // of them: extended to the larger width, a fill stretched or not.
 use bit::LogicBit;
 use planes::MAX_WIDTH;
-use refusal::{Refusal, Verdict};
+use refusal::Refusal;
+use refusal::Verdict;
 ghost use mathlib.Core.Path.{_≡_};
 ghost use Prim.Native.Nat.{_≤_};
 ghost use mathlib.Core.List.{[], _∷_};
 ghost use lib.ListN.{getD};
 ghost use Rattle.refusal.specs.Outcome.{outcome, verdict};
-ghost use Rattle.planes.specs.Planes.{fromPlanes};
-ghost use Rattle.planes.specs.Entries.{lent};
+ghost use Rattle.words.specs.Planes.{fromPlanes};
+ghost use Rattle.words.specs.Planes.{lent};
 ghost use Rattle.value.specs.Checks.{checkVector, checkOperand, checkOutput, vectorAnswer};
 ghost use Rattle.value.specs.Constructors.{clamped, plain, constructed, newVector, zeroVector, fromU64};
 ghost use Rattle.value.specs.Extension as extension;
@@ -93,7 +94,7 @@ pub fn check_operand(o: Operand, value: &[u64], unknown: &[u64]) -> Verdict
 pub fn check_output(width: u32, value: &[u64], unknown: &[u64]) -> Verdict
     ensures { λ r. ⌜ verdict r ≡ checkOutput width (lent (now (value .entry)) (now (unknown .entry))) ⌝ }
 {
-    let n = planes::word_count(width);
+    let n = words::word_count(width);
     if value.len() != n {
         return Verdict::Refused(Refusal::OutputLength);
     }
@@ -122,7 +123,14 @@ pub fn plain_header(width: u32) -> Header
 }
 
 // A vector at a clamped width: its low bits are the `count` low bits of a number, and every further bit is `beyond`.
-fn construct(width: u32, value: &mut [u64], unknown: &mut [u64], val: u64, count: u32, beyond: LogicBit) -> VectorAnswer
+fn construct(
+    width: u32,
+    value: &mut [u64],
+    unknown: &mut [u64],
+    val: u64,
+    count: u32,
+    beyond: LogicBit,
+) -> VectorAnswer
     requires { ⌜ count ≤ 64 ⌝ }
     ensures { λ r. ⌜ outcome (vectorAnswer r) (lent (now (value .exit)) (now (unknown .exit))) ≡ constructed width (λ i. getD (fromPlanes count (val ∷ []) (0 ∷ [])) i beyond) (lent (now (value .entry)) (now (unknown .entry))) ⌝ }
 {
@@ -132,7 +140,7 @@ fn construct(width: u32, value: &mut [u64], unknown: &mut [u64], val: u64, count
         Verdict::Accepted => {
             let low = [val];
             let none = [0u64];
-            planes::inner::extend_into(w, value, unknown, &low, &none, count, beyond);
+            words::inner::extend_into(w, value, unknown, &low, &none, count, beyond);
             VectorAnswer::Vector(plain_header(w))
         }
     }

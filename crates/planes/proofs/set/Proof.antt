@@ -1,7 +1,8 @@
 -- `planes::set`: refused as checked, else one bit is put in.
 use Rattle.refusal.specs.Outcome.Answer.{given}
-use Rattle.planes.specs.Planes.{fromPlanes}
-use Rattle.planes.specs.Entries.{Planes, planesOf, spliced}
+use Rattle.words.specs.Planes.{fromPlanes}
+use Rattle.words.specs.Planes.{Planes, planesOf}
+use Rattle.planes.specs.Entries.{spliced}
 use Rattle.planes.proofs.Splice.{set-spliced}
 use mathlib.Core.Path.{_≡_, sym, ap, _∙_}
 use Rattle.refusal.specs.Outcome.{outcome, verdict}

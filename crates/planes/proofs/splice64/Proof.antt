@@ -1,6 +1,6 @@
 -- `planes::splice64`: refused as checked, else by the inner function.
 use Rattle.refusal.specs.Outcome.Answer.{given}
-use Rattle.planes.specs.Entries.{Planes}
+use Rattle.words.specs.Planes.{Planes}
 use mathlib.Core.Path.{_≡_, sym, ap, _∙_}
 use Rattle.refusal.specs.Outcome.{outcome, verdict}
 use Rattle.planes.proofs.Checks.{planes-accepted}

@@ -1,6 +1,6 @@
 -- `value::construct`: refused as checked, else written whole.
-use Rattle.planes.specs.Planes.{fromPlanes}
-use Rattle.planes.specs.Entries.{lent}
+use Rattle.words.specs.Planes.{fromPlanes}
+use Rattle.words.specs.Planes.{lent}
 use Rattle.bit.specs.declared.LogicBit.{LogicBit}
 use Rattle.value.proofs.Constructors.{by-check}
 use mathlib.Core.List.{[], _∷_}
@@ -11,7 +11,7 @@ use Prim.Native.Nat.{ℕ}
 use native.Mathlib.Omega.{arith}
 use Rattle.refusal.specs.Outcome.{Answer, outcome, orRefuse, verdict}
 use Rattle.refusal.specs.Outcome.Answer.{given}
-use Rattle.planes.specs.Entries.{Planes}
+use Rattle.words.specs.Planes.{Planes}
 use Rattle.planes.proofs.Checks.{exactly-accepted}
 use Rattle.value.specs.Checks.{checkOutput}
 use borrow.Author.Needs.{needs}

@@ -1,7 +1,7 @@
 -- `value::from_u64`: the digits of the number.
 use Prim.Native.Nat.{ℕ}
 use Rattle.bit.specs.declared.LogicBit.{LogicBit}
-use Rattle.planes.specs.Entries.{lent}
+use Rattle.words.specs.Planes.{lent}
 use Rattle.value.specs.Constructors.{constructed}
 use Rattle.value.proofs.Constructors.{number}
 use mathlib.Core.Path.{_≡_, ap, _∙_}

@@ -2,7 +2,7 @@
 use mathlib.Core.List.{[], _∷_}
 use Prim.Native.Nat.{ℕ}
 use Rattle.bit.specs.declared.LogicBit.{LogicBit}
-use Rattle.planes.specs.Entries.{lent}
+use Rattle.words.specs.Planes.{lent}
 use Rattle.value.specs.Constructors.{constructed}
 use Rattle.value.proofs.Constructors.{constant}
 use mathlib.Core.Path.{_≡_, ap, _∙_}

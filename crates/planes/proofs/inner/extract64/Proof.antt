@@ -2,9 +2,9 @@
 use mathlib.Core.Path.{_≡_, refl, sym, ap, ap₂, _∙_}
 use Prim.Native.Nat.{ℕ, _-_, _^_}
 use lib.Bits.{bitAnd}
-use Rattle.planes.specs.Planes.{valueDigit, unknownDigit}
-use Rattle.planes.proofs.Planes.{value-digit-lt, unknown-digit-lt}
-use Rattle.planes.proofs.Extend.{wordBy, value-is, unknown-is}
+use Rattle.words.specs.Planes.{valueDigit, unknownDigit}
+use Rattle.words.proofs.Planes.{value-digit-lt, unknown-digit-lt}
+use Rattle.words.proofs.Extend.{wordBy, value-is, unknown-is}
 use Rattle.planes.proofs.Splice.{extracted-word}
 use borrow.Author.Needs.{needs}
 use Rattle.planes.proofs.inner.extract64.Statement.{statement}

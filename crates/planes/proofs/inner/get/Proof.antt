@@ -2,8 +2,8 @@
 use mathlib.Core.Path.{sym, ap₂, _∙_}
 use native.Mathlib.Omega.{arith}
 use Rattle.bit.specs.declared.LogicBit.the-variants.{Zero}
-use Rattle.planes.specs.Planes.{stored, planeBit}
-use Rattle.planes.proofs.Planes.{getD-tabulate-out, at-planes, stored-one, stored-x, stored-z}
+use Rattle.words.specs.Planes.{stored, planeBit}
+use Rattle.words.proofs.Planes.{getD-tabulate-out, at-planes, stored-one, stored-x, stored-z}
 use borrow.Author.Needs.{needs}
 use Rattle.planes.proofs.inner.get.Statement.{statement}
 use Rattle.planes.proofs.inner.get.Tie as tie

@@ -1,13 +1,14 @@
 -- `planes::inner::splice64`: each plane by its digit; at or above the width nothing.
-use Rattle.planes.specs.Vector.{bitAt}
+use Rattle.words.specs.Vector.{bitAt}
 use mathlib.Core.Path.{_≡_, refl, sym, ap, ap₂, _∙_}
 use Prim.Native.Nat.{ℕ, _-_, _<_, min}
 use native.Mathlib.Omega.{arith}
-use Rattle.planes.specs.Planes.{valueDigit, unknownDigit, bitOf, fromPlanes}
-use Rattle.planes.specs.Entries.{lent, planesOf, splicedPlane, spliceCount}
-use Rattle.planes.proofs.Words.{bit-lt}
-use Rattle.planes.proofs.Planes.{length-tabulate, value-digit-lt, unknown-digit-lt, value-digit-stored, unknown-digit-stored}
-use Rattle.planes.proofs.Extend.{value-is, unknown-is}
+use Rattle.words.specs.Planes.{valueDigit, unknownDigit, bitOf, fromPlanes}
+use Rattle.words.specs.Planes.{lent, planesOf}
+use Rattle.planes.specs.Entries.{splicedPlane, spliceCount}
+use Rattle.words.proofs.Digits.{bit-lt}
+use Rattle.words.proofs.Planes.{length-tabulate, value-digit-lt, unknown-digit-lt, value-digit-stored, unknown-digit-stored}
+use Rattle.words.proofs.Extend.{value-is, unknown-is}
 use Rattle.planes.proofs.Splice.{planes-again, spliced-none, spliced-plane}
 use borrow.Author.Needs.{needs}
 use Rattle.planes.proofs.inner.splice64.Statement.{statement}

@@ -2,13 +2,13 @@
 use lib.Seq.{getD-set-other}
 use mathlib.Core.Bool.{cond}
 use lib.Dec.{eqb}
-use Rattle.planes.specs.Vector.{bitAt, pack}
+use Rattle.words.specs.Vector.{bitAt, pack}
 use mathlib.Core.Path.{_≡_, sym, ap, _∙_}
 use Prim.Native.Nat.{ℕ, _+_, _-_, _*_, _/_, _%_, _^_, _<_}
 use native.Mathlib.Nat.{div-add-mod'}
 use native.Mathlib.Omega.{arith}
 use lib.ListN.{getD, length-set}
-use Rattle.planes.proofs.Shift.{low-word, spliced-one, high-word, spliced-two}
+use Rattle.planes.proofs.Put.{low-word, spliced-one, high-word, spliced-two}
 use borrow.Author.Needs.{needs}
 use Rattle.planes.proofs.inner.splice_plane.Statement.{statement}
 use Rattle.planes.proofs.inner.splice_plane.Tie as tie

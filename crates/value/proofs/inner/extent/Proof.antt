@@ -1,5 +1,5 @@
 -- `value::inner::extent`: by the tests on the way.
-use Rattle.planes.specs.Entries.{lent}
+use Rattle.words.specs.Planes.{lent}
 use Rattle.value.specs.Extension.{vector}
 use mathlib.Core.Bool.{true, false}
 use Rattle.value.proofs.Extension.{extent-stretched, extent-plain, extentOver}

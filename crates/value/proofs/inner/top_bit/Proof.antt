@@ -2,9 +2,9 @@
 use mathlib.Core.Path.{_≡_, refl, sym, ap, _∙_}
 use Prim.Native.Nat.{ℕ, _-_}
 use lib.ListN.{length}
-use Rattle.planes.specs.Vector.{at, tabulate}
-use Rattle.planes.specs.Planes.{fromPlanes}
-use Rattle.planes.proofs.Planes.{length-tabulate}
+use Rattle.words.specs.Vector.{at, tabulate}
+use Rattle.words.specs.Planes.{fromPlanes}
+use Rattle.words.proofs.Planes.{length-tabulate}
 use borrow.Author.Needs.{needs}
 use Rattle.value.proofs.inner.top_bit.Statement.{statement}
 use Rattle.value.proofs.inner.top_bit.Tie as tie

@@ -1,0 +1,7 @@
+pub mod Digits
+pub mod Planes
+pub mod Lanes
+pub mod Fill
+pub mod Extend
+pub mod Top
+pub mod Shift
