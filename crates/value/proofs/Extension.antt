@@ -14,7 +14,8 @@ use Rattle.words.specs.Planes.{lent}
 use Rattle.value.specs.declared.Header.{Header}
 use Rattle.value.specs.declared.Extent.{Extent}
 use Rattle.value.specs.declared.Operator.{Operator}
-use Rattle.value.specs.Extension.{Vector, vector, top, stretched, signExtended, extension, operandAt, extentOf}
+use Rattle.value.specs.Checks.{Vector, vector}
+use Rattle.value.specs.Extension.{top, stretched, signExtended, extension, operandAt, extentOf}
 
 abbrev pub extentOver : ℕ → LogicBit → Extent
 extentOver w b = record { width = w; beyond = b }

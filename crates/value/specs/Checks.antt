@@ -1,18 +1,29 @@
--- The checks of an operand and of output planes, in document 01's numbers and order ("Numbers for what is not done").
-use mathlib.Core.Bool.{Bool, true, false, _&&_, cond}
+-- A vector with its header, the checks of an operand and of output planes, in document 01's numbers and order ("Numbers for what is not
+-- done"), and how a result is written.
+use mathlib.Core.Bool.{_&&_, cond}
+use mathlib.Core.List.{List}
 use Prim.Native.Nat.{ℕ}
 use lib.Dec.{eqb}
 use Rattle.refusal.specs.Refusals.{refusalNumber}
-use Rattle.refusal.specs.Outcome.{Answer, after}
+use Rattle.refusal.specs.Outcome.{Answer, Outcome, outcome, after, orRefuse}
 use Rattle.refusal.specs.Outcome.Answer.{given, refused}
-use Rattle.words.specs.Planes.{wordCount}
+use Rattle.bit.specs.declared.LogicBit.{LogicBit}
+use Rattle.words.specs.Planes.{wordCount, vectorOf, planesOf}
 use Rattle.words.specs.Planes.{Planes}
 use Rattle.planes.specs.Entries.{exactly, checkPlanes}
 use Rattle.value.specs.declared.Header.{Header}
 use Rattle.value.specs.declared.Operand.{Operand}
-use Rattle.value.specs.declared.Operand.the-variants.{Vector, Real}
+use Rattle.value.specs.declared.Operand.the-variants as operand
 use Rattle.value.specs.declared.VectorAnswer.{VectorAnswer}
 use Rattle.value.specs.declared.VectorAnswer.the-variants as vector-answer
+
+-- a header and the bits of its width
+pub record Vector : Type 0 where
+  pub header : Header
+  pub bits : List LogicBit
+
+abbrev pub vector : Header → Planes → Vector
+vector h p = record { header = h; bits = vectorOf (h .width) p }
 
 -- the answer in the paper's numbers
 abbrev pub vectorAnswer : VectorAnswer → Answer Header
@@ -23,11 +34,19 @@ vectorAnswer (vector-answer.Refused r) = refused (refusalNumber r)
 unfoldable pub checkVector : Header → Planes → Answer Unit
 checkVector h p = after (checkPlanes (h .width) p) (cond (h .«is_fill» && eqb (h .width) 0) (refused 4) (given tt))
 
+-- 1 to 4 for the left operand, then for the right
+abbrev pub checkPair : Header → Planes → Header → Planes → Answer Unit
+checkPair a p b q = after (checkVector a p) (checkVector b q)
+
 -- a float comes with empty planes: 2
 unfoldable pub checkOperand : Operand → Planes → Answer Unit
-checkOperand (Vector h) p = checkVector h p
-checkOperand (Real x) p = exactly 0 p 2
+checkOperand (operand.Vector h) p = checkVector h p
+checkOperand (operand.Real x) p = exactly 0 p 2
 
 -- 5 an output plane is not exactly the result's word count
 unfoldable pub checkOutput : ℕ → Planes → Answer Unit
 checkOutput w p = exactly (wordCount w) p 5
+
+-- a result vector, written whole into the planes lent for it, or 5
+abbrev pub written : Vector → Planes → Outcome Header Planes
+written r out = orRefuse (checkOutput (r .header .width) out) out (outcome (given (r .header)) (planesOf (r .bits)))

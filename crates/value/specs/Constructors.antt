@@ -4,14 +4,12 @@ use mathlib.Core.List.{List}
 use Prim.Native.Nat.{ℕ, min}
 use Rattle.bit.specs.declared.LogicBit.{LogicBit}
 use Rattle.bit.specs.declared.LogicBit.the-variants.{Zero, X}
-use Rattle.refusal.specs.Outcome.{Outcome, outcome, orRefuse}
-use Rattle.refusal.specs.Outcome.Answer.{given}
+use Rattle.refusal.specs.Outcome.{Outcome}
 use Rattle.words.specs.Vector.{tabulate, bitAt}
-use Rattle.words.specs.Planes.{stored}
-use Rattle.words.specs.Planes.{Planes, planesOf}
+use Rattle.words.specs.Planes.{Planes, stored}
 use Rattle.planes.specs.Entries.{maxWidth}
 use Rattle.value.specs.declared.Header.{Header}
-use Rattle.value.specs.Checks.{checkOutput}
+use Rattle.value.specs.Checks.{written}
 
 -- constructors clamp larger widths
 abbrev pub clamped : ℕ → ℕ
@@ -23,8 +21,7 @@ plain w = record { width = w; «is_signed» = false; «is_fill» = false }
 
 -- the vector f 0, f 1, .. of the clamped width
 abbrev pub constructed : ℕ → (ℕ → LogicBit) → Planes → Outcome Header Planes
-constructed w f p =
-    orRefuse (checkOutput (clamped w) p) p (outcome (given (plain (clamped w))) (planesOf (tabulate (clamped w) f)))
+constructed w f p = written (record { header = plain (clamped w); bits = tabulate (clamped w) f }) p
 
 -- `new`: every bit is x
 abbrev pub newVector : ℕ → Planes → Outcome Header Planes

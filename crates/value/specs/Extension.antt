@@ -7,19 +7,11 @@ use lib.ListN.{length, getD}
 use Rattle.bit.specs.declared.LogicBit.{LogicBit}
 use Rattle.bit.specs.declared.LogicBit.the-variants.{Zero}
 use Rattle.words.specs.Vector.{at}
-use Rattle.words.specs.Planes.{Planes, vectorOf}
 use Rattle.value.specs.declared.Header.{Header}
+use Rattle.value.specs.Checks.{Vector}
 use Rattle.value.specs.declared.Extent.{Extent}
 use Rattle.value.specs.declared.Operator.{Operator}
 use Rattle.value.specs.declared.Operator.the-variants.{And, Or, Xor, Merge, Equal, CaseEqual, CasezEqual, CasexEqual, WildcardEqual}
-
--- a header and the bits of its width
-pub record Vector : Type 0 where
-  pub header : Header
-  pub bits : List LogicBit
-
-abbrev pub vector : Header → Planes → Vector
-vector h p = record { header = h; bits = vectorOf (h .width) p }
 
 -- a fill is first stretched; merge and wildcard equality leave it alone
 abbrev pub stretches : Operator → Bool

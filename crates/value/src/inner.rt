@@ -7,7 +7,8 @@ ghost use mathlib.Core.Path.{_≡_};
 ghost use lib.ListN.{length};
 ghost use Rattle.words.specs.Planes.{wordCount, fromPlanes};
 ghost use Rattle.words.specs.Planes.{lent};
-ghost use Rattle.value.specs.Extension.{vector, top, stretched, signedFor, signExtended, extentOf};
+ghost use Rattle.value.specs.Checks.{vector};
+ghost use Rattle.value.specs.Extension.{top, stretched, signedFor, signExtended, extentOf};
 
 // The top bit; 0 of an empty vector.
 pub fn top_bit(h: Header, value: &[u64], unknown: &[u64]) -> LogicBit

@@ -11,7 +11,7 @@ ghost use lib.ListN.{getD};
 ghost use Rattle.refusal.specs.Outcome.{outcome, verdict};
 ghost use Rattle.words.specs.Planes.{fromPlanes};
 ghost use Rattle.words.specs.Planes.{lent};
-ghost use Rattle.value.specs.Checks.{checkVector, checkOperand, checkOutput, vectorAnswer};
+ghost use Rattle.value.specs.Checks.{checkVector, checkPair, checkOperand, checkOutput, vectorAnswer};
 ghost use Rattle.value.specs.Constructors.{clamped, plain, constructed, newVector, zeroVector, fromU64};
 ghost use Rattle.value.specs.Extension as extension;
 
@@ -69,6 +69,16 @@ pub fn check_vector(h: Header, value: &[u64], unknown: &[u64]) -> Verdict
             }
             Verdict::Accepted
         }
+    }
+}
+
+// Whether two vectors may be operands: 1 to 4 for the left one, then for the right one.
+pub fn check_pair(a: Header, av: &[u64], au: &[u64], b: Header, bv: &[u64], bu: &[u64]) -> Verdict
+    ensures { λ r. ⌜ verdict r ≡ checkPair a (lent (now (av .entry)) (now (au .entry))) b (lent (now (bv .entry)) (now (bu .entry))) ⌝ }
+{
+    match check_vector(a, av, au) {
+        Verdict::Refused(r) => Verdict::Refused(r),
+        Verdict::Accepted => check_vector(b, bv, bu),
     }
 }
 

@@ -1,6 +1,6 @@
 -- `value::inner::extent`: by the tests on the way.
 use Rattle.words.specs.Planes.{lent}
-use Rattle.value.specs.Extension.{vector}
+use Rattle.value.specs.Checks.{vector}
 use mathlib.Core.Bool.{true, false}
 use Rattle.value.proofs.Extension.{extent-stretched, extent-plain, extentOver}
 use mathlib.Core.Path.{_≡_, sym, ap, _∙_}
