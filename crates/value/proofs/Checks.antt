@@ -1,4 +1,4 @@
--- What the check of a vector says where it accepts.
+-- What the checks of a vector and of a pair say where they accept.
 use mathlib.Core.Path.{_≡_, refl}
 use mathlib.Core.Bool.{Bool, true, false, _&&_, cond}
 use Prim.Native.Nat.{ℕ}
@@ -11,7 +11,7 @@ use Rattle.words.specs.Planes.{Planes}
 use Rattle.planes.specs.Entries.{checkPlanes}
 use Rattle.planes.proofs.Checks.{Checked, planes-accepted}
 use Rattle.value.specs.declared.Header.{Header}
-use Rattle.value.specs.Checks.{checkVector}
+use Rattle.value.specs.Checks.{checkVector, checkPair}
 
 -- planes that fit the header, and no fill of width 0
 pub record Sound (h : Header) (p : Planes) : Type 0 where
@@ -29,3 +29,11 @@ vector-accepted h p a = go (checkPlanes (h .width) p) refl (h .«is_fill») refl
     go (given t) ex true _ false ez a = record { planes = planes-accepted (h .width) p ex; fill = λ _. eqb-false _ _ ez }
     go (given t) ex false ef z _ a =
         record { planes = planes-accepted (h .width) p ex; fill = λ e _. let y : true ≡ false = cc in let q : _≡_ {A = ℕ} 0 1 = cc in omega arith }
+
+-- both operands of an accepted pair are in order
+pub pair-accepted : (a : Header) (p : Planes) (b : Header) (q : Planes) → checkPair a p b q ≡ given tt → Sound a p × Sound b q
+pair-accepted a p b q e = go (checkVector a p) refl e
+  where
+    go : (x : Answer Unit) → checkVector a p ≡ x → after x (checkVector b q) ≡ given tt → Sound a p × Sound b q
+    go (refused n) _ h = let z : _≡_ {A = ℕ} 0 1 = cc in absurd (omega arith)
+    go (given t) ex h = (vector-accepted a p ex, vector-accepted b q h)

@@ -1,10 +1,12 @@
 -- How an operand is read beside another: its extent says the bit at each place.
 --     extent-at                         the bit at a place, told by the extent
 --     extent-stretched, extent-plain    the extent by the tests of the code
+--     extent-narrow                     it is no wider than the operand
 use mathlib.Core.Path.{_≡_, refl, ap, _∙_}
 use mathlib.Core.Bool.{Bool, true, false, cond}
 use mathlib.Core.List.{List}
-use Prim.Native.Nat.{ℕ}
+use Prim.Native.Nat.{ℕ, _≤_}
+use native.Mathlib.Omega.{arith}
 use lib.ListN.{getD}
 use Rattle.bit.specs.declared.LogicBit.{LogicBit}
 use Rattle.bit.specs.declared.LogicBit.the-variants.{Zero}
@@ -44,3 +46,11 @@ module _ (op : Operator) (a : Vector) (b : Header) where
   extent-plain e s h =
       ap (λ (s : Bool). extentBy s (a .header .width) (at (a .bits) 0) (extension op a b)) e
       ∙ ap (λ (s : Bool). extentBy false (a .header .width) (at (a .bits) 0) (cond s (top (a .bits)) Zero)) h
+
+-- an extent is no wider than the operand
+narrow-by : (s : Bool) (w : ℕ) (first beyond : LogicBit) → extentBy s w first beyond .width ≤ w
+narrow-by true w first beyond = omega arith
+narrow-by false w first beyond = omega arith
+
+pub extent-narrow : (op : Operator) (a : Vector) (b : Header) → extentOf op a b .width ≤ a .header .width
+extent-narrow op a b = narrow-by (stretched op (a .header)) (a .header .width) (at (a .bits) 0) (extension op a b)

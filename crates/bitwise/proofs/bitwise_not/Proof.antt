@@ -1,0 +1,92 @@
+-- `bitwise::bitwise_not`: refused as checked, else inverted.
+use mathlib.Core.Path.{_≡_, sym, ap, _∙_}
+use Rattle.refusal.specs.Outcome.{outcome, verdict}
+use Rattle.refusal.specs.Outcome.Answer.{given}
+use Rattle.words.specs.Planes.{Planes, lent}
+use Rattle.planes.proofs.Checks.{exactly-accepted}
+use Rattle.value.specs.declared.Header.{Header}
+use Rattle.value.specs.Checks.{checkOutput}
+use Rattle.value.proofs.Checks.{vector-accepted}
+use Rattle.bitwise.specs.Bitwise.{notHeader}
+use borrow.Author.Needs.{needs}
+use Rattle.bitwise.proofs.bitwise_not.Statement.{statement}
+use Rattle.bitwise.proofs.bitwise_not.Tie as tie
+
+check-vector-requires : tie.Need-check-vector-requires
+check-vector-requires c κs = search needs
+
+enum-known-r : tie.Need-enum-known-r
+enum-known-r c = search needs
+
+enum-told : tie.Need-enum-told
+enum-told c = search needs
+
+check-output-requires : tie.Need-check-output-requires
+check-output-requires c κs = search needs
+
+enum-known-r-2 : tie.Need-enum-known-r-2
+enum-known-r-2 c = search needs
+
+enum-told-2 : tie.Need-enum-told-2
+enum-told-2 c = search needs
+
+not-planes-requires : tie.Need-not-planes-requires
+unfolding checkOutput
+not-planes-requires c κs =
+    let t2 = c .before .before in
+    let t = t2 .before .before .before .before .before in
+    let a = t .before .before .before .before .before .before .before .args in
+    let p = vector-accepted (a .a) (lent (a .av .now) (a .au .now)) (sym (t .before .before .check-vector .ensures) ∙ ap verdict (t .enum-told .given .1)) in
+    let l = exactly-accepted _ (lent (a .ov .now) (a .ou .now)) 5 (sym (t2 .before .before .check-output .ensures) ∙ ap verdict (t2 .enum-told2 .given .1)) in
+    ((p .planes .value-plane, p .planes .unknown-plane), l)
+
+returns : tie.Need-returns
+returns c =
+    let t = c .before in
+    simp (sym (t .before .before .check-vector .ensures) ∙ ap verdict (t .r .given .1))
+
+same-length : tie.Need-same-length
+same-length c = search needs
+
+same-length-2 : tie.Need-same-length-2
+same-length-2 c = search needs
+
+returns-2 : tie.Need-returns-2
+returns-2 c =
+    let t2 = c .before in
+    let t = t2 .before .before .before .before .before in
+    simp (sym (t .before .before .check-vector .ensures) ∙ ap verdict (t .enum-told .given .1), sym (t2 .before .before .check-output .ensures) ∙ ap verdict (t2 .r2 .given .1))
+
+same-length-3 : tie.Need-same-length-3
+same-length-3 c = search needs
+
+same-length-4 : tie.Need-same-length-4
+same-length-4 c = search needs
+
+returns-3 : tie.Need-returns-3
+returns-3 c =
+    let j = c .before .before .before .before in
+    let t2 = j .before .before .before in
+    let t = t2 .before .before .before .before .before in
+    let a = t .before .before .before .before .before .before .before .args in
+    simp (sym (t .before .before .check-vector .ensures) ∙ ap verdict (t .enum-told .given .1), sym (t2 .before .before .check-output .ensures) ∙ ap verdict (t2 .enum-told2 .given .1))
+    (ap (λ (p : Planes). outcome (given (notHeader (a .a))) p) (j .not-planes .ensures))
+
+pub bitwise-not-spec : {M : Type 1} → statement M
+bitwise-not-spec =
+    tie.close
+    (tie.spec
+    check-vector-requires
+    enum-known-r
+    enum-told
+    check-output-requires
+    enum-known-r-2
+    enum-told-2
+    not-planes-requires
+    returns
+    same-length
+    same-length-2
+    returns-2
+    same-length-3
+    same-length-4
+    returns-3)

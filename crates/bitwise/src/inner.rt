@@ -1,0 +1,306 @@
+// The work behind the operators: words joined by lanes, straight from the planes where both operands have whole words, and through the
+// reader of extended operands behind those. These ask their caller for accepted operands.
+use crate::Bitwise;
+use value::Extent;
+use value::Header;
+use value::Operator;
+use words::Word;
+use words::inner::kept;
+use words::inner::least;
+use words::inner::ones;
+use words::inner::operand_word;
+ghost use mathlib.Core.Path.{_≡_};
+ghost use Prim.Native.Nat.{_≤_, max};
+ghost use mathlib.Core.Bool.{not, _&&_};
+ghost use lib.Dec.{eqb};
+ghost use lib.ListN.{length, getD};
+ghost use Rattle.bit.specs.Rules.{andBit, orBit, xorBit, mergeBit, notBit};
+ghost use Rattle.words.specs.Vector.{tabulate, at};
+ghost use Rattle.words.specs.Planes.{wordCount, fromPlanes, wordOf, valueDigit, unknownDigit, lent, planesOf, Plane};
+ghost use Rattle.words.proofs.Extend.{wordBy};
+ghost use Rattle.words.proofs.Fill.{Written};
+ghost use Rattle.planes.specs.Entries.{spliced};
+ghost use Rattle.value.specs.Checks.{vector};
+ghost use Rattle.bitwise.specs.Bitwise as bitwise;
+ghost use Rattle.bitwise.specs.Bitwise.{opBit, joined, inverted, stands};
+ghost use Rattle.bitwise.specs.Lanes.{laneWord, laneOne, cutWord, joinedOver};
+
+// A known 0 on either side gives 0; two known 1s give 1; anything else is x.
+fn and_lanes(a: Word, b: Word) -> Word
+    ensures { λ r. ⌜ r ≡ laneWord andBit a b ⌝ }
+{
+    let av = a.value;
+    let au = a.unknown;
+    let bv = b.value;
+    let bu = b.unknown;
+    let one = av & !au & bv & !bu;
+    Word {
+        value: one,
+        unknown: (av | au) & (bv | bu) & !one,
+    }
+}
+
+// A known 1 on either side gives 1; two known 0s give 0; anything else is x.
+fn or_lanes(a: Word, b: Word) -> Word
+    ensures { λ r. ⌜ r ≡ laneWord orBit a b ⌝ }
+{
+    let av = a.value;
+    let au = a.unknown;
+    let bv = b.value;
+    let bu = b.unknown;
+    let one = (av & !au) | (bv & !bu);
+    Word {
+        value: one,
+        unknown: (au | bu) & !one,
+    }
+}
+
+// x where either is unknown, else whether they differ.
+fn xor_lanes(a: Word, b: Word) -> Word
+    ensures { λ r. ⌜ r ≡ laneWord xorBit a b ⌝ }
+{
+    let av = a.value;
+    let au = a.unknown;
+    let bv = b.value;
+    let bu = b.unknown;
+    Word {
+        value: (av ^ bv) & !(au | bu),
+        unknown: au | bu,
+    }
+}
+
+// Known only where both are known and equal.
+fn merge_lanes(a: Word, b: Word) -> Word
+    ensures { λ r. ⌜ r ≡ laneWord mergeBit a b ⌝ }
+{
+    let av = a.value;
+    let au = a.unknown;
+    let bv = b.value;
+    let bu = b.unknown;
+    let differ = (au | bu) | (av ^ bv);
+    Word {
+        value: av & !differ,
+        unknown: differ,
+    }
+}
+
+// The operator on one word of each operand.
+pub fn lanes(op: Bitwise, a: Word, b: Word) -> Word
+    ensures { λ r. ⌜ r ≡ laneWord (opBit op) a b ⌝ }
+{
+    match op {
+        Bitwise::And => and_lanes(a, b),
+        Bitwise::Or => or_lanes(a, b),
+        Bitwise::Xor => xor_lanes(a, b),
+        Bitwise::Merge => merge_lanes(a, b),
+    }
+}
+
+// The first n words, straight from the planes.
+fn join_whole(
+    op: Bitwise,
+    av: &[u64],
+    au: &[u64],
+    bv: &[u64],
+    bu: &[u64],
+    ov: &mut [u64],
+    ou: &mut [u64],
+    n: usize,
+)
+    requires { ⌜ (n ≤ length (now av)) × (n ≤ length (now au)) ⌝ }
+    requires { ⌜ (n ≤ length (now bv)) × (n ≤ length (now bu)) ⌝ }
+    requires { ⌜ (n ≤ length (now ov)) × (n ≤ length (now ou)) ⌝ }
+    ensures { λ _. ⌜ Written (λ k. laneWord (opBit op) (wordBy (getD (now (av .entry)) k 0) (getD (now (au .entry)) k 0)) (wordBy (getD (now (bv .entry)) k 0) (getD (now (bu .entry)) k 0)) .value) (length (now (ov .entry))) n (now (ov .exit)) ⌝ }
+    ensures { λ _. ⌜ Written (λ k. laneWord (opBit op) (wordBy (getD (now (av .entry)) k 0) (getD (now (au .entry)) k 0)) (wordBy (getD (now (bv .entry)) k 0) (getD (now (bu .entry)) k 0)) .unknown) (length (now (ou .entry))) n (now (ou .exit)) ⌝ }
+{
+    let mut k = 0;
+    while k < n {
+        let a = Word {
+            value: av[k],
+            unknown: au[k],
+        };
+        let b = Word {
+            value: bv[k],
+            unknown: bu[k],
+        };
+        let r = lanes(op, a, b);
+        ov[k] = r.value;
+        ou[k] = r.unknown;
+        k += 1;
+    }
+}
+
+// Word k of a vector of the width: what lies beyond is cut off.
+fn cut_word(width: u32, k: usize, x: Word) -> Word
+    ensures { λ r. ⌜ r ≡ cutWord width k x ⌝ }
+{
+    let n = kept(width, k);
+    let m = ones(n);
+    Word {
+        value: x.value & m,
+        unknown: x.unknown & m,
+    }
+}
+
+// Word k of a result of the width, from that word of both operands.
+fn rest_word(op: Bitwise, a: Word, b: Word, width: u32, k: usize) -> Word
+    ensures { λ r. ⌜ r ≡ cutWord width k (laneWord (opBit op) a b) ⌝ }
+{
+    cut_word(width, k, lanes(op, a, b))
+}
+
+// The words from `from` on, through the reader of extended operands.
+fn join_rest(
+    op: Bitwise,
+    a: Extent,
+    av: &[u64],
+    au: &[u64],
+    b: Extent,
+    bv: &[u64],
+    bu: &[u64],
+    width: u32,
+    ov: &mut [u64],
+    ou: &mut [u64],
+    from: usize,
+)
+    requires { ⌜ (wordCount (a .width) ≤ length (now av)) × (wordCount (a .width) ≤ length (now au)) ⌝ }
+    requires { ⌜ (wordCount (b .width) ≤ length (now bv)) × (wordCount (b .width) ≤ length (now bu)) ⌝ }
+    requires { ⌜ (length (now ov) ≡ wordCount width) × (length (now ou) ≡ wordCount width) ⌝ }
+    requires { ⌜ Written (wordOf valueDigit (at (joinedOver op width a (lent (now av) (now au)) b (lent (now bv) (now bu))))) (length (now ov)) from (now ov) ⌝ }
+    requires { ⌜ Written (wordOf unknownDigit (at (joinedOver op width a (lent (now av) (now au)) b (lent (now bv) (now bu))))) (length (now ou)) from (now ou) ⌝ }
+    ensures { λ _. ⌜ lent (now (ov .exit)) (now (ou .exit)) ≡ planesOf (joinedOver op width a (lent (now (av .entry)) (now (au .entry))) b (lent (now (bv .entry)) (now (bu .entry)))) ⌝ }
+{
+    let aw = a.width;
+    let ab = a.beyond;
+    let bw = b.width;
+    let bb = b.beyond;
+    let mut k = from;
+    while k < ov.len() {
+        let x = operand_word(av, au, aw, k, ab);
+        let y = operand_word(bv, bu, bw, k, bb);
+        let r = rest_word(op, x, y, width, k);
+        ov[k] = r.value;
+        ou[k] = r.unknown;
+        k += 1;
+    }
+}
+
+// The row of the tables by which the operands are read.
+fn operator(op: Bitwise) -> Operator
+    ensures { λ r. ⌜ r ≡ bitwise.operator op ⌝ }
+{
+    match op {
+        Bitwise::And => Operator::And,
+        Bitwise::Or => Operator::Or,
+        Bitwise::Xor => Operator::Xor,
+        Bitwise::Merge => Operator::Merge,
+    }
+}
+
+// The operator on two accepted operands.
+pub fn join_planes(
+    op: Bitwise,
+    a: Header,
+    av: &[u64],
+    au: &[u64],
+    b: Header,
+    bv: &[u64],
+    bu: &[u64],
+    width: u32,
+    ov: &mut [u64],
+    ou: &mut [u64],
+)
+    requires { ⌜ Plane (a .width) (now av) × Plane (a .width) (now au) ⌝ }
+    requires { ⌜ Plane (b .width) (now bv) × Plane (b .width) (now bu) ⌝ }
+    requires { ⌜ width ≡ max (a .width) (b .width) ⌝ }
+    requires { ⌜ (length (now ov) ≡ wordCount width) × (length (now ou) ≡ wordCount width) ⌝ }
+    ensures { λ _. ⌜ lent (now (ov .exit)) (now (ou .exit)) ≡ planesOf (joined op (vector a (lent (now (av .entry)) (now (au .entry)))) (vector b (lent (now (bv .entry)) (now (bu .entry))))) ⌝ }
+{
+    let t = operator(op);
+    let x = value::inner::extent(t, a, av, au, b);
+    let y = value::inner::extent(t, b, bv, bu, a);
+    let xw = x.width as usize;
+    let yw = y.width as usize;
+    let n = least(xw, yw) / 64;
+    join_whole(op, av, au, bv, bu, ov, ou, n);
+    join_rest(op, x, av, au, y, bv, bu, width, ov, ou, n);
+}
+
+// Word k of not.
+fn not_word(a: Word) -> Word
+    ensures { λ r. ⌜ r ≡ laneOne notBit a ⌝ }
+{
+    let av = a.value;
+    let au = a.unknown;
+    Word {
+        value: !(av | au),
+        unknown: au,
+    }
+}
+
+// Not of a vector: every word, and the last one cut off at the width.
+pub fn not_planes(width: u32, av: &[u64], au: &[u64], ov: &mut [u64], ou: &mut [u64])
+    requires { ⌜ Plane width (now av) × Plane width (now au) ⌝ }
+    requires { ⌜ (length (now ov) ≡ wordCount width) × (length (now ou) ≡ wordCount width) ⌝ }
+    ensures { λ _. ⌜ lent (now (ov .exit)) (now (ou .exit)) ≡ planesOf (inverted (fromPlanes width (now (av .entry)) (now (au .entry)))) ⌝ }
+{
+    let last = ov.len() - 1;
+    let mut k = 0;
+    while k < last {
+        let a = Word {
+            value: av[k],
+            unknown: au[k],
+        };
+        let r = not_word(a);
+        ov[k] = r.value;
+        ou[k] = r.unknown;
+        k += 1;
+    }
+    let a = Word {
+        value: av[last],
+        unknown: au[last],
+    };
+    let r = cut_word(width, last, not_word(a));
+    ov[last] = r.value;
+    ou[last] = r.unknown;
+}
+
+// Whether a word of both planes is these two words.
+fn is_word(x: Word, value: u64, unknown: u64) -> bool
+    ensures { λ r. ⌜ r ≡ (eqb (x .value) value && eqb (x .unknown) unknown) ⌝ }
+{
+    if x.value == value {
+        x.unknown == unknown
+    } else {
+        false
+    }
+}
+
+// Puts bits in, as `splice64` of planes does, and tells whether one changed.
+pub fn splice_bits64(
+    width: u32,
+    value: &mut [u64],
+    unknown: &mut [u64],
+    pos: usize,
+    bits: Word,
+    n: usize,
+) -> bool
+    requires { ⌜ Plane width (now value) ⌝ }
+    requires { ⌜ Plane width (now unknown) ⌝ }
+    ensures { λ r. ⌜ r ≡ not (stands (fromPlanes width (now (value .entry)) (now (unknown .entry))) pos n bits) ⌝ }
+    ensures { λ _. ⌜ lent (now (value .exit)) (now (unknown .exit)) ≡ planesOf (spliced (fromPlanes width (now (value .entry)) (now (unknown .entry))) pos n bits) ⌝ }
+{
+    let w = width as usize;
+    if w <= pos {
+        return false;
+    }
+    let room = least(64, w - pos);
+    let count = least(n, room);
+    let old = planes::inner::extract64(width, value, unknown, pos, count);
+    let m = ones(count);
+    if is_word(old, bits.value & m, bits.unknown & m) {
+        return false;
+    }
+    planes::inner::splice64(width, value, unknown, pos, bits, n);
+    true
+}

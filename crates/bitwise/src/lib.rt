@@ -1,0 +1,205 @@
+// The operators whose result is a vector: and, or, xor, merge and not into lent planes, and insert in place.
+use refusal::Refusal;
+use refusal::Verdict;
+use value::Header;
+use value::VectorAnswer;
+use value::check_output;
+use value::check_pair;
+use value::check_vector;
+use words::Word;
+ghost use mathlib.Core.Path.{_≡_};
+ghost use Prim.Native.Nat.{max};
+ghost use Rattle.refusal.specs.Outcome.{outcome};
+ghost use Rattle.words.specs.Planes.{lent};
+ghost use Rattle.value.specs.Checks.{vectorAnswer};
+ghost use Rattle.bitwise.specs.declared.Bitwise.the-variants.{And, Or, Xor, Merge};
+ghost use Rattle.bitwise.specs.Bitwise.{bitwise, bitwiseNot, resultHeader, insert, changeAnswer};
+
+pub mod inner;
+
+// An operator that joins two vectors place by place.
+pub enum Bitwise {
+    And,
+    Or,
+    Xor,
+    Merge,
+}
+
+// Whether an insert changed a bit.
+pub enum ChangeAnswer {
+    Changed(bool),
+    Refused(Refusal),
+}
+
+fn larger(a: u32, b: u32) -> u32
+    ensures { λ r. ⌜ r ≡ max a b ⌝ }
+{
+    if a < b { b } else { a }
+}
+
+// The header of the operator's result.
+fn result_header(op: Bitwise, a: Header, b: Header) -> Header
+    ensures { λ r. ⌜ r ≡ resultHeader op a b ⌝ }
+{
+    let width = larger(a.width, b.width);
+    match op {
+        Bitwise::Merge => {
+            if 64 < width {
+                return value::plain_header(width);
+            }
+            Header {
+                width: width,
+                is_signed: a.is_signed & b.is_signed,
+                is_fill: false,
+            }
+        }
+        Bitwise::And => value::plain_header(width),
+        Bitwise::Or => value::plain_header(width),
+        Bitwise::Xor => value::plain_header(width),
+    }
+}
+
+// The operator on two vectors of any widths, into planes of the larger width.
+fn join(
+    op: Bitwise,
+    a: Header,
+    av: &[u64],
+    au: &[u64],
+    b: Header,
+    bv: &[u64],
+    bu: &[u64],
+    ov: &mut [u64],
+    ou: &mut [u64],
+) -> VectorAnswer
+    ensures { λ r. ⌜ outcome (vectorAnswer r) (lent (now (ov .exit)) (now (ou .exit))) ≡ bitwise op a (lent (now (av .entry)) (now (au .entry))) b (lent (now (bv .entry)) (now (bu .entry))) (lent (now (ov .entry)) (now (ou .entry))) ⌝ }
+{
+    match check_pair(a, av, au, b, bv, bu) {
+        Verdict::Refused(r) => VectorAnswer::Refused(r),
+        Verdict::Accepted => {
+            let h = result_header(op, a, b);
+            let width = h.width;
+            match check_output(width, ov, ou) {
+                Verdict::Refused(r) => VectorAnswer::Refused(r),
+                Verdict::Accepted => {
+                    inner::join_planes(op, a, av, au, b, bv, bu, width, ov, ou);
+                    VectorAnswer::Vector(h)
+                }
+            }
+        }
+    }
+}
+
+// 0 at a place where either has 0, 1 where both have 1, else x.
+pub fn bitwise_and(
+    a: Header,
+    av: &[u64],
+    au: &[u64],
+    b: Header,
+    bv: &[u64],
+    bu: &[u64],
+    ov: &mut [u64],
+    ou: &mut [u64],
+) -> VectorAnswer
+    ensures { λ r. ⌜ outcome (vectorAnswer r) (lent (now (ov .exit)) (now (ou .exit))) ≡ bitwise And a (lent (now (av .entry)) (now (au .entry))) b (lent (now (bv .entry)) (now (bu .entry))) (lent (now (ov .entry)) (now (ou .entry))) ⌝ }
+{
+    join(Bitwise::And, a, av, au, b, bv, bu, ov, ou)
+}
+
+// 1 at a place where either has 1, 0 where both have 0, else x.
+pub fn bitwise_or(
+    a: Header,
+    av: &[u64],
+    au: &[u64],
+    b: Header,
+    bv: &[u64],
+    bu: &[u64],
+    ov: &mut [u64],
+    ou: &mut [u64],
+) -> VectorAnswer
+    ensures { λ r. ⌜ outcome (vectorAnswer r) (lent (now (ov .exit)) (now (ou .exit))) ≡ bitwise Or a (lent (now (av .entry)) (now (au .entry))) b (lent (now (bv .entry)) (now (bu .entry))) (lent (now (ov .entry)) (now (ou .entry))) ⌝ }
+{
+    join(Bitwise::Or, a, av, au, b, bv, bu, ov, ou)
+}
+
+// x at a place where either is unknown, else whether they differ.
+pub fn bitwise_xor(
+    a: Header,
+    av: &[u64],
+    au: &[u64],
+    b: Header,
+    bv: &[u64],
+    bu: &[u64],
+    ov: &mut [u64],
+    ou: &mut [u64],
+) -> VectorAnswer
+    ensures { λ r. ⌜ outcome (vectorAnswer r) (lent (now (ov .exit)) (now (ou .exit))) ≡ bitwise Xor a (lent (now (av .entry)) (now (au .entry))) b (lent (now (bv .entry)) (now (bu .entry))) (lent (now (ov .entry)) (now (ou .entry))) ⌝ }
+{
+    join(Bitwise::Xor, a, av, au, b, bv, bu, ov, ou)
+}
+
+// The bit at a place where both have it and know it, else x.
+pub fn merge_unknown(
+    a: Header,
+    av: &[u64],
+    au: &[u64],
+    b: Header,
+    bv: &[u64],
+    bu: &[u64],
+    ov: &mut [u64],
+    ou: &mut [u64],
+) -> VectorAnswer
+    ensures { λ r. ⌜ outcome (vectorAnswer r) (lent (now (ov .exit)) (now (ou .exit))) ≡ bitwise Merge a (lent (now (av .entry)) (now (au .entry))) b (lent (now (bv .entry)) (now (bu .entry))) (lent (now (ov .entry)) (now (ou .entry))) ⌝ }
+{
+    join(Bitwise::Merge, a, av, au, b, bv, bu, ov, ou)
+}
+
+// 0 and 1 exchanged; x and z give x.
+pub fn bitwise_not(
+    a: Header,
+    av: &[u64],
+    au: &[u64],
+    ov: &mut [u64],
+    ou: &mut [u64],
+) -> VectorAnswer
+    ensures { λ r. ⌜ outcome (vectorAnswer r) (lent (now (ov .exit)) (now (ou .exit))) ≡ bitwiseNot a (lent (now (av .entry)) (now (au .entry))) (lent (now (ov .entry)) (now (ou .entry))) ⌝ }
+{
+    let width = a.width;
+    match check_vector(a, av, au) {
+        Verdict::Refused(r) => VectorAnswer::Refused(r),
+        Verdict::Accepted => match check_output(width, ov, ou) {
+            Verdict::Refused(r) => VectorAnswer::Refused(r),
+            Verdict::Accepted => {
+                inner::not_planes(width, av, au, ov, ou);
+                VectorAnswer::Vector(Header {
+                    width: width,
+                    is_signed: a.is_signed,
+                    is_fill: false,
+                })
+            }
+        },
+    }
+}
+
+// Puts the lowest bits of a word in from `pos` on: the least of n, 64 and the width minus `pos` of them. Whether a bit changed.
+pub fn splice_bits64(
+    a: Header,
+    value: &mut [u64],
+    unknown: &mut [u64],
+    pos: usize,
+    bits: Word,
+    n: usize,
+) -> ChangeAnswer
+    ensures { λ r. ⌜ outcome (changeAnswer r) (lent (now (value .exit)) (now (unknown .exit))) ≡ insert a (lent (now (value .entry)) (now (unknown .entry))) pos bits n ⌝ }
+{
+    match check_vector(a, value, unknown) {
+        Verdict::Refused(r) => ChangeAnswer::Refused(r),
+        Verdict::Accepted => ChangeAnswer::Changed(inner::splice_bits64(
+            a.width,
+            value,
+            unknown,
+            pos,
+            bits,
+            n,
+        )),
+    }
+}
