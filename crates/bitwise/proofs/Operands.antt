@@ -13,15 +13,17 @@ use Rattle.words.specs.Planes.{valueDigit, unknownDigit, fromPlanes, wordOf, wo
 use Rattle.words.proofs.Extend.{wordBy}
 use Rattle.words.proofs.Fill.{Written}
 use Rattle.value.specs.declared.Header.{Header}
-use Rattle.value.specs.declared.Extent.{Extent}
-use Rattle.value.specs.declared.Operator.{Operator}
+use Rattle.extension.specs.declared.Extent.{Extent}
+use Rattle.extension.specs.declared.Operator.{Operator}
 use Rattle.value.specs.Checks.{vector}
-use Rattle.value.specs.Extension.{operandAt, extentOf}
-use Rattle.value.proofs.Extension.{extent-at, extent-narrow}
-use Rattle.bitwise.specs.declared.Bitwise.{Bitwise}
-use Rattle.bitwise.specs.Bitwise.{opBit, operator, joined}
-use Rattle.bitwise.specs.Lanes.{laneWord, joinedOver}
-use Rattle.bitwise.proofs.Lanes.{direct, whole-word}
+use Rattle.extension.specs.Extension.{operandAt, extentOf}
+use Rattle.extension.proofs.Extension.{extent-at, extent-narrow}
+use Rattle.lanes.specs.declared.Bitwise.{Bitwise}
+use Rattle.lanes.specs.Lanes.{opBit}
+use Rattle.bitwise.specs.Bitwise.{operator, joined}
+use Rattle.bitwise.specs.Bitwise.{joinedOver}
+use Rattle.lanes.specs.Lanes.{laneWord}
+use Rattle.lanes.proofs.Places.{direct, whole-word}
 
 module _ (op : Bitwise) (a b : Header) (av au bv bu : List ℕ) (t : Operator) (e : t ≡ operator op) (x y : Extent)
     (hx : x ≡ extentOf t (vector a (lent av au)) b) (hy : y ≡ extentOf t (vector b (lent bv bu)) a) (w : ℕ) (hw : w ≡ max (a .width) (b .width)) where

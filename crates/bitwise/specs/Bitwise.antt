@@ -3,32 +3,27 @@ use mathlib.Core.Bool.{Bool, true, false, not, _&&_}
 use mathlib.Core.List.{List}
 use Prim.Native.Nat.{ℕ, zero, suc, _+_, max}
 use lib.Dec.{leb}
-use lib.ListN.{length}
+use lib.ListN.{length, getD}
 use Rattle.bit.specs.declared.LogicBit.{LogicBit}
-use Rattle.bit.specs.Rules.{andBit, orBit, xorBit, mergeBit, notBit, same}
+use Rattle.bit.specs.Rules.{notBit, same}
 use Rattle.refusal.specs.Refusals.{refusalNumber}
 use Rattle.refusal.specs.Outcome.{Answer, Outcome, outcome, after, orRefuse}
 use Rattle.refusal.specs.Outcome.Answer.{given, refused}
 use Rattle.words.specs.declared.Word.{Word}
 use Rattle.words.specs.Vector.{tabulate, at}
-use Rattle.words.specs.Planes.{Planes, planesOf, bitOf}
+use Rattle.words.specs.Planes.{fromPlanes, Planes, planesOf, bitOf}
 use Rattle.planes.specs.Entries.{spliceCount, spliced}
+use Rattle.lanes.specs.Lanes.{opBit}
 use Rattle.value.specs.declared.Header.{Header}
-use Rattle.value.specs.declared.Operator.{Operator}
-use Rattle.value.specs.declared.Operator.the-variants as operator-of
+use Rattle.extension.specs.declared.Extent.{Extent}
+use Rattle.extension.specs.declared.Operator.{Operator}
+use Rattle.extension.specs.declared.Operator.the-variants as operator-of
 use Rattle.value.specs.Checks.{Vector, vector, checkVector, checkPair, written}
-use Rattle.value.specs.Extension.{operandAt}
-use Rattle.bitwise.specs.declared.Bitwise.{Bitwise}
-use Rattle.bitwise.specs.declared.Bitwise.the-variants.{And, Or, Xor, Merge}
+use Rattle.extension.specs.Extension.{operandAt}
+use Rattle.lanes.specs.declared.Bitwise.{Bitwise}
+use Rattle.lanes.specs.declared.Bitwise.the-variants.{And, Or, Xor, Merge}
 use Rattle.bitwise.specs.declared.ChangeAnswer.{ChangeAnswer}
 use Rattle.bitwise.specs.declared.ChangeAnswer.the-variants as change-answer
-
--- the single-bit rule
-abbrev pub opBit : Bitwise → LogicBit → LogicBit → LogicBit
-opBit And = andBit
-opBit Or = orBit
-opBit Xor = xorBit
-opBit Merge = mergeBit
 
 -- the row of the tables by which the operands are read
 abbrev pub operator : Bitwise → Operator
@@ -56,6 +51,12 @@ abbrev pub joined : Bitwise → Vector → Vector → List LogicBit
 joined op a b =
     tabulate (larger (a .header) (b .header))
     (λ i. opBit op (operandAt (operator op) a (b .header) i) (operandAt (operator op) b (a .header) i))
+
+-- the same over two operands that are read by their extents, at width w: what the inner functions give
+abbrev pub joinedOver : Bitwise → ℕ → Extent → Planes → Extent → Planes → List LogicBit
+joinedOver op w a p b q =
+    tabulate w
+    (λ i. opBit op (getD (fromPlanes (a .width) (p .value) (p .unknown)) i (a .beyond)) (getD (fromPlanes (b .width) (q .value) (q .unknown)) i (b .beyond)))
 
 -- `bitwise_and`, `bitwise_or`, `bitwise_xor`, `merge_unknown`: 1 to 4 for the left operand, then for the right, then 5
 abbrev pub bitwise : Bitwise → Header → Planes → Header → Planes → Planes → Outcome Header Planes

@@ -1,2 +1,1 @@
 pub mod Bitwise
-pub mod Lanes

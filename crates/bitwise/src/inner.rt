@@ -1,11 +1,14 @@
 // The work behind the operators: words joined by lanes, straight from the planes where both operands have whole words, and through the
 // reader of extended operands behind those. These ask their caller for accepted operands.
-use crate::Bitwise;
-use value::Extent;
+use extension::Extent;
+use extension::Operator;
+use lanes::Bitwise;
+use lanes::cut_word;
+use lanes::lanes;
+use lanes::not_word;
+use lanes::rest_word;
 use value::Header;
-use value::Operator;
 use words::Word;
-use words::inner::kept;
 use words::inner::least;
 use words::inner::ones;
 use words::inner::operand_word;
@@ -14,7 +17,6 @@ ghost use Prim.Native.Nat.{_≤_, max};
 ghost use mathlib.Core.Bool.{not, _&&_};
 ghost use lib.Dec.{eqb};
 ghost use lib.ListN.{length, getD};
-ghost use Rattle.bit.specs.Rules.{andBit, orBit, xorBit, mergeBit, notBit};
 ghost use Rattle.words.specs.Vector.{tabulate, at};
 ghost use Rattle.words.specs.Planes.{wordCount, fromPlanes, wordOf, valueDigit, unknownDigit, lent, planesOf, Plane};
 ghost use Rattle.words.proofs.Extend.{wordBy};
@@ -22,79 +24,8 @@ ghost use Rattle.words.proofs.Fill.{Written};
 ghost use Rattle.planes.specs.Entries.{spliced};
 ghost use Rattle.value.specs.Checks.{vector};
 ghost use Rattle.bitwise.specs.Bitwise as bitwise;
-ghost use Rattle.bitwise.specs.Bitwise.{opBit, joined, inverted, stands};
-ghost use Rattle.bitwise.specs.Lanes.{laneWord, laneOne, cutWord, joinedOver};
-
-// A known 0 on either side gives 0; two known 1s give 1; anything else is x.
-fn and_lanes(a: Word, b: Word) -> Word
-    ensures { λ r. ⌜ r ≡ laneWord andBit a b ⌝ }
-{
-    let av = a.value;
-    let au = a.unknown;
-    let bv = b.value;
-    let bu = b.unknown;
-    let one = av & !au & bv & !bu;
-    Word {
-        value: one,
-        unknown: (av | au) & (bv | bu) & !one,
-    }
-}
-
-// A known 1 on either side gives 1; two known 0s give 0; anything else is x.
-fn or_lanes(a: Word, b: Word) -> Word
-    ensures { λ r. ⌜ r ≡ laneWord orBit a b ⌝ }
-{
-    let av = a.value;
-    let au = a.unknown;
-    let bv = b.value;
-    let bu = b.unknown;
-    let one = (av & !au) | (bv & !bu);
-    Word {
-        value: one,
-        unknown: (au | bu) & !one,
-    }
-}
-
-// x where either is unknown, else whether they differ.
-fn xor_lanes(a: Word, b: Word) -> Word
-    ensures { λ r. ⌜ r ≡ laneWord xorBit a b ⌝ }
-{
-    let av = a.value;
-    let au = a.unknown;
-    let bv = b.value;
-    let bu = b.unknown;
-    Word {
-        value: (av ^ bv) & !(au | bu),
-        unknown: au | bu,
-    }
-}
-
-// Known only where both are known and equal.
-fn merge_lanes(a: Word, b: Word) -> Word
-    ensures { λ r. ⌜ r ≡ laneWord mergeBit a b ⌝ }
-{
-    let av = a.value;
-    let au = a.unknown;
-    let bv = b.value;
-    let bu = b.unknown;
-    let differ = (au | bu) | (av ^ bv);
-    Word {
-        value: av & !differ,
-        unknown: differ,
-    }
-}
-
-// The operator on one word of each operand.
-pub fn lanes(op: Bitwise, a: Word, b: Word) -> Word
-    ensures { λ r. ⌜ r ≡ laneWord (opBit op) a b ⌝ }
-{
-    match op {
-        Bitwise::And => and_lanes(a, b),
-        Bitwise::Or => or_lanes(a, b),
-        Bitwise::Xor => xor_lanes(a, b),
-        Bitwise::Merge => merge_lanes(a, b),
-    }
-}
+ghost use Rattle.bitwise.specs.Bitwise.{joined, joinedOver, inverted, stands};
+ghost use Rattle.lanes.specs.Lanes.{opBit, laneWord};
 
 // The first n words, straight from the planes.
 fn join_whole(
@@ -128,25 +59,6 @@ fn join_whole(
         ou[k] = r.unknown;
         k += 1;
     }
-}
-
-// Word k of a vector of the width: what lies beyond is cut off.
-fn cut_word(width: u32, k: usize, x: Word) -> Word
-    ensures { λ r. ⌜ r ≡ cutWord width k x ⌝ }
-{
-    let n = kept(width, k);
-    let m = ones(n);
-    Word {
-        value: x.value & m,
-        unknown: x.unknown & m,
-    }
-}
-
-// Word k of a result of the width, from that word of both operands.
-fn rest_word(op: Bitwise, a: Word, b: Word, width: u32, k: usize) -> Word
-    ensures { λ r. ⌜ r ≡ cutWord width k (laneWord (opBit op) a b) ⌝ }
-{
-    cut_word(width, k, lanes(op, a, b))
 }
 
 // The words from `from` on, through the reader of extended operands.
@@ -217,25 +129,13 @@ pub fn join_planes(
     ensures { λ _. ⌜ lent (now (ov .exit)) (now (ou .exit)) ≡ planesOf (joined op (vector a (lent (now (av .entry)) (now (au .entry)))) (vector b (lent (now (bv .entry)) (now (bu .entry))))) ⌝ }
 {
     let t = operator(op);
-    let x = value::inner::extent(t, a, av, au, b);
-    let y = value::inner::extent(t, b, bv, bu, a);
+    let x = extension::inner::extent(t, a, av, au, b);
+    let y = extension::inner::extent(t, b, bv, bu, a);
     let xw = x.width as usize;
     let yw = y.width as usize;
     let n = least(xw, yw) / 64;
     join_whole(op, av, au, bv, bu, ov, ou, n);
     join_rest(op, x, av, au, y, bv, bu, width, ov, ou, n);
-}
-
-// Word k of not.
-fn not_word(a: Word) -> Word
-    ensures { λ r. ⌜ r ≡ laneOne notBit a ⌝ }
-{
-    let av = a.value;
-    let au = a.unknown;
-    Word {
-        value: !(av | au),
-        unknown: au,
-    }
 }
 
 // Not of a vector: every word, and the last one cut off at the width.

@@ -1,4 +1,5 @@
 // The operators whose result is a vector: and, or, xor, merge and not into lent planes, and insert in place.
+use lanes::Bitwise;
 use refusal::Refusal;
 use refusal::Verdict;
 use value::Header;
@@ -12,18 +13,10 @@ ghost use Prim.Native.Nat.{max};
 ghost use Rattle.refusal.specs.Outcome.{outcome};
 ghost use Rattle.words.specs.Planes.{lent};
 ghost use Rattle.value.specs.Checks.{vectorAnswer};
-ghost use Rattle.bitwise.specs.declared.Bitwise.the-variants.{And, Or, Xor, Merge};
+ghost use Rattle.lanes.specs.declared.Bitwise.the-variants.{And, Or, Xor, Merge};
 ghost use Rattle.bitwise.specs.Bitwise.{bitwise, bitwiseNot, resultHeader, insert, changeAnswer};
 
 pub mod inner;
-
-// An operator that joins two vectors place by place.
-pub enum Bitwise {
-    And,
-    Or,
-    Xor,
-    Merge,
-}
 
 // Whether an insert changed a bit.
 pub enum ChangeAnswer {

@@ -1,3 +1,2 @@
 pub mod Checks
-pub mod Extension
 pub mod Constructors

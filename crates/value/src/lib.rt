@@ -1,5 +1,4 @@
-// A vector's header and the operand of equality and truth, their checks, the constructors, and how an operator of two operands reads each
-// of them: extended to the larger width, a fill stretched or not.
+// A vector's header and the operand of equality and truth, their checks, and the constructors.
 use bit::LogicBit;
 use planes::MAX_WIDTH;
 use refusal::Refusal;
@@ -13,9 +12,6 @@ ghost use Rattle.words.specs.Planes.{fromPlanes};
 ghost use Rattle.words.specs.Planes.{lent};
 ghost use Rattle.value.specs.Checks.{checkVector, checkPair, checkOperand, checkOutput, vectorAnswer};
 ghost use Rattle.value.specs.Constructors.{clamped, plain, constructed, newVector, zeroVector, fromU64};
-ghost use Rattle.value.specs.Extension as extension;
-
-pub mod inner;
 
 pub struct Header {
     pub width: u32,
@@ -33,25 +29,6 @@ pub enum Operand {
 pub enum VectorAnswer {
     Vector(Header),
     Refused(Refusal),
-}
-
-// Operators that take two operands side by side.
-pub enum Operator {
-    And,
-    Or,
-    Xor,
-    Merge,
-    Equal,
-    CaseEqual,
-    CasezEqual,
-    CasexEqual,
-    WildcardEqual,
-}
-
-// An operand at any place: below the width its planes' bits, from there on the bit `beyond`.
-pub struct Extent {
-    pub width: u32,
-    pub beyond: LogicBit,
 }
 
 // Whether a vector may be an operand: 1, 2, 3, then 4.
@@ -175,38 +152,4 @@ pub fn from_u64(val: u64, width: u32, value: &mut [u64], unknown: &mut [u64]) ->
     ensures { λ r. ⌜ outcome (vectorAnswer r) (lent (now (value .exit)) (now (unknown .exit))) ≡ fromU64 val width (lent (now (value .entry)) (now (unknown .entry))) ⌝ }
 {
     construct(width, value, unknown, val, 64, LogicBit::Zero)
-}
-
-// Whether the operator first stretches a fill: all its bits become its bit 0, and it is then unsigned.
-pub fn stretches(op: Operator) -> bool
-    ensures { λ r. ⌜ r ≡ extension.stretches op ⌝ }
-{
-    match op {
-        Operator::And => true,
-        Operator::Or => true,
-        Operator::Xor => true,
-        Operator::Merge => false,
-        Operator::Equal => true,
-        Operator::CaseEqual => true,
-        Operator::CasezEqual => true,
-        Operator::CasexEqual => true,
-        Operator::WildcardEqual => false,
-    }
-}
-
-// Whether the operator extends two signed operands by their top bits; else the extension is 0.
-pub fn extends_by_top(op: Operator) -> bool
-    ensures { λ r. ⌜ r ≡ extension.extendsByTop op ⌝ }
-{
-    match op {
-        Operator::And => false,
-        Operator::Or => false,
-        Operator::Xor => false,
-        Operator::Merge => false,
-        Operator::Equal => true,
-        Operator::CaseEqual => true,
-        Operator::CasezEqual => true,
-        Operator::CasexEqual => true,
-        Operator::WildcardEqual => true,
-    }
 }

@@ -1,5 +1,5 @@
 -- `bitwise::inner::join_rest`: the words below k are those of the result.
-use Rattle.value.proofs.Extension.{extentOver}
+use Rattle.extension.proofs.Extension.{extentOver}
 use mathlib.Core.Path.{_≡_, refl, sym, ap, ap₂, _∙_}
 use mathlib.Core.List.{List}
 use Prim.Native.Nat.{ℕ, _≤_, _-_}
@@ -11,9 +11,9 @@ use Rattle.words.specs.Vector.{at, tabulate}
 use Rattle.words.specs.Planes.{valueDigit, unknownDigit, wordCount, fromPlanes, wordOf, lent}
 use Rattle.words.proofs.Planes.{length-tabulate}
 use Rattle.words.proofs.Fill.{Written, more, plane-done}
-use Rattle.bitwise.specs.Bitwise.{opBit}
-use Rattle.bitwise.specs.Lanes.{joinedOver}
-use Rattle.bitwise.proofs.Lanes.{rest-word}
+use Rattle.lanes.specs.Lanes.{opBit}
+use Rattle.bitwise.specs.Bitwise.{joinedOver}
+use Rattle.lanes.proofs.Places.{rest-word}
 use borrow.Author.Needs.{needs}
 use Rattle.bitwise.proofs.inner.join_rest.Statement.{statement}
 use Rattle.bitwise.proofs.inner.join_rest.Tie as tie

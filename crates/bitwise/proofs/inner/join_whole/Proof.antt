@@ -1,5 +1,5 @@
 -- `bitwise::inner::join_whole`: the words below k are the lanes of the operands' words.
-use Rattle.bitwise.proofs.Lanes.{fewer}
+use Rattle.lanes.proofs.Places.{fewer}
 use mathlib.Core.Path.{_≡_, refl, ap}
 use mathlib.Core.List.{List}
 use Prim.Native.Nat.{ℕ, _≤_, _-_}
@@ -8,9 +8,9 @@ use lib.ListN.{length, getD}
 use Rattle.words.specs.declared.Word.{Word}
 use Rattle.words.proofs.Extend.{wordBy}
 use Rattle.words.proofs.Fill.{Written, start, more}
-use Rattle.bitwise.specs.declared.Bitwise.{Bitwise}
-use Rattle.bitwise.specs.Bitwise.{opBit}
-use Rattle.bitwise.specs.Lanes.{laneWord}
+use Rattle.lanes.specs.declared.Bitwise.{Bitwise}
+use Rattle.lanes.specs.Lanes.{opBit}
+use Rattle.lanes.specs.Lanes.{laneWord}
 use borrow.Author.Needs.{needs}
 use Rattle.bitwise.proofs.inner.join_whole.Statement.{statement}
 use Rattle.bitwise.proofs.inner.join_whole.Tie as tie

@@ -13,8 +13,8 @@ use Rattle.words.proofs.Planes.{length-tabulate, operand}
 use Rattle.words.proofs.Extend.{wordBy}
 use Rattle.words.proofs.Fill.{Written, start, more, plane-done}
 use Rattle.bitwise.specs.Bitwise.{inverted}
-use Rattle.bitwise.specs.Lanes.{laneOne, cutWord}
-use Rattle.bitwise.proofs.Lanes.{one-whole, one-cut}
+use Rattle.lanes.specs.Lanes.{laneOne, cutWord}
+use Rattle.lanes.proofs.Places.{one-whole, one-cut}
 use borrow.Author.Needs.{needs}
 use Rattle.bitwise.proofs.inner.not_planes.Statement.{statement}
 use Rattle.bitwise.proofs.inner.not_planes.Tie as tie

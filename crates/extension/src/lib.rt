@@ -1,0 +1,60 @@
+// How an operator of two operands reads each of them: extended to the larger width, a fill stretched or not. Which operator asks for what is
+// told by two tables, and nowhere else.
+use bit::LogicBit;
+ghost use mathlib.Core.Path.{_≡_};
+ghost use Rattle.extension.specs.Extension as table;
+
+pub mod inner;
+
+// Operators that take two operands side by side.
+pub enum Operator {
+    And,
+    Or,
+    Xor,
+    Merge,
+    Equal,
+    CaseEqual,
+    CasezEqual,
+    CasexEqual,
+    WildcardEqual,
+}
+
+// An operand at any place: below the width its planes' bits, from there on the bit `beyond`.
+pub struct Extent {
+    pub width: u32,
+    pub beyond: LogicBit,
+}
+
+// Whether the operator first stretches a fill: all its bits become its bit 0, and it is then unsigned.
+pub fn stretches(op: Operator) -> bool
+    ensures { λ r. ⌜ r ≡ table.stretches op ⌝ }
+{
+    match op {
+        Operator::And => true,
+        Operator::Or => true,
+        Operator::Xor => true,
+        Operator::Merge => false,
+        Operator::Equal => true,
+        Operator::CaseEqual => true,
+        Operator::CasezEqual => true,
+        Operator::CasexEqual => true,
+        Operator::WildcardEqual => false,
+    }
+}
+
+// Whether the operator extends two signed operands by their top bits; else the extension is 0.
+pub fn extends_by_top(op: Operator) -> bool
+    ensures { λ r. ⌜ r ≡ table.extendsByTop op ⌝ }
+{
+    match op {
+        Operator::And => false,
+        Operator::Or => false,
+        Operator::Xor => false,
+        Operator::Merge => false,
+        Operator::Equal => true,
+        Operator::CaseEqual => true,
+        Operator::CasezEqual => true,
+        Operator::CasexEqual => true,
+        Operator::WildcardEqual => true,
+    }
+}
