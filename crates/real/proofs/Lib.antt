@@ -1,0 +1,5 @@
+pub mod Near
+pub mod Fields
+pub mod Wrap
+pub mod Low
+pub mod Cases
