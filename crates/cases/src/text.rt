@@ -1,0 +1,169 @@
+// The parts of a line, numbers, and vectors as text.
+use words::Word;
+ghost use Prim.Native.Nat.{_≤_, _<_};
+ghost use lib.ListN.{length};
+
+// The place of the first such byte from a place on, or the end.
+pub(crate) fn until(s: &[u8], at: usize, byte: u8) -> usize
+    requires { ⌜ at ≤ length (now s) ⌝ }
+    ensures { λ r. ⌜ (at ≤ r) × (r ≤ length (now (s .entry))) ⌝ }
+{
+    let mut i = at;
+    while i < s.len() {
+        if s[i] == byte {
+            return i;
+        }
+        i += 1;
+    }
+    i
+}
+
+// Where part k starts, if that byte stands between parts; the end where there are fewer.
+fn start(s: &[u8], k: usize, byte: u8) -> usize
+    ensures { λ r. ⌜ r ≤ length (now (s .entry)) ⌝ }
+{
+    let mut at = 0;
+    let mut i = 0;
+    while i < k {
+        at = until(s, at, byte);
+        if at == s.len() {
+            return at;
+        }
+        at += 1;
+        i += 1;
+    }
+    at
+}
+
+// Part k, from 0; empty where there are fewer.
+fn part(s: &[u8], k: usize, byte: u8) -> &[u8] {
+    let a = start(s, k, byte);
+    let e = until(s, a, byte);
+    &s[a..e]
+}
+
+pub(crate) fn field(line: &[u8], k: usize) -> &[u8] {
+    part(line, k, b' ')
+}
+
+// A decimal number below 2^64.
+pub(crate) fn decimal(s: &[u8]) -> u64 {
+    let mut n: u64 = 0;
+    let mut i = 0;
+    while i < s.len() {
+        if 1_844_674_407_370_955_161 < n {
+            return n;
+        }
+        n = std::num::wrapping_add_u64(n * 10, (s[i] % 16) as u64);
+        i += 1;
+    }
+    n
+}
+
+fn code(digit: u8) -> u64 {
+    match digit {
+        b'0' => 0,
+        b'1' => 1,
+        b'x' => 2,
+        _ => 3,
+    }
+}
+
+// Bit i of the plane of those digits of the bits' codes that the divisor picks: 1 for the value plane, 2 for the unknown plane.
+fn plane_bit(bits: &[u8], divisor: u64, i: usize) -> u64
+    requires { ⌜ 0 < divisor ⌝ }
+{
+    if bits.len() <= i {
+        return 0;
+    }
+    code(bits[bits.len() - 1 - i]) / divisor % 2
+}
+
+// The word of that plane that starts at bit i.
+fn word_from(bits: &[u8], divisor: u64, i: usize) -> u64
+    requires { ⌜ 0 < divisor ⌝ }
+    requires { ⌜ i ≤ 1048576 ⌝ }
+{
+    let mut word = 0;
+    let mut j = 0;
+    while j < 64 {
+        word = word | (plane_bit(bits, divisor, i + j) << j);
+        j += 1;
+    }
+    word
+}
+
+// The lowest bits as a word of both planes.
+pub(crate) fn word(bits: &[u8]) -> Word {
+    Word {
+        value: word_from(bits, 1, 0),
+        unknown: word_from(bits, 2, 0),
+    }
+}
+
+// Fills a plane of at most 16,385 words with that plane of the bits, and with zeros above them.
+pub(crate) fn load(bits: &[u8], divisor: u64, plane: &mut [u64])
+    requires { ⌜ 0 < divisor ⌝ }
+{
+    let mut k = 0;
+    while k < plane.len() {
+        if 16384 < k {
+            return;
+        }
+        plane[k] = word_from(bits, divisor, k * 64);
+        k += 1;
+    }
+}
+
+// Whether a plane of at most 16,385 words is that plane of the bits, with zeros above them.
+pub(crate) fn holds(bits: &[u8], divisor: u64, plane: &[u64]) -> bool
+    requires { ⌜ 0 < divisor ⌝ }
+{
+    let mut k = 0;
+    while k < plane.len() {
+        if 16384 < k {
+            return false;
+        }
+        if plane[k] != word_from(bits, divisor, k * 64) {
+            return false;
+        }
+        k += 1;
+    }
+    true
+}
+
+// A width, and how many words each plane has.
+pub(crate) struct Extent {
+    pub(crate) width: u32,
+    pub(crate) value: usize,
+    pub(crate) unknown: usize,
+}
+
+// Whether a vector is its bits alone.
+fn is_plain(vector: &[u8]) -> bool {
+    until(vector, 0, b':') == vector.len()
+}
+
+pub(crate) fn extent_of(vector: &[u8]) -> Extent {
+    if is_plain(vector) {
+        let w = (vector.len() % 0x1_0000_0000) as u32;
+        let n = words::word_count(w);
+        return Extent {
+            width: w,
+            value: n,
+            unknown: n,
+        };
+    }
+    Extent {
+        width: (decimal(part(vector, 0, b':')) % 0x1_0000_0000) as u32,
+        value: decimal(part(vector, 1, b':')) as usize,
+        unknown: decimal(part(vector, 2, b':')) as usize,
+    }
+}
+
+pub(crate) fn digits(vector: &[u8]) -> &[u8] {
+    if is_plain(vector) {
+        return vector;
+    }
+    part(vector, 3, b':')
+}

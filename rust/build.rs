@@ -1,0 +1,42 @@
+//! Finds the proved static library and, with the feature `reference`, the reference's source, which is no part of this repository.
+//!
+//! - `VOWHERUNGA_STATICLIB`: the folder of libffi.a, in place of target/staticlib at the repository's root.
+//! - `REFERENCE_VALUE_RS`: the reference's src/value.rs, in place of ../shared/docs/src/src/value.rs from there.
+use std::{env, fs, path::PathBuf};
+
+/// The path that a variable gives, or a place seen from this package.
+fn place(variable: &str, default: &str) -> PathBuf {
+    println!("cargo:rerun-if-env-changed={variable}");
+    match env::var_os(variable) {
+        Some(path) => PathBuf::from(path),
+        None => PathBuf::from(env::var_os("CARGO_MANIFEST_DIR").unwrap()).join(default),
+    }
+}
+
+fn link_library() {
+    let folder = place("VOWHERUNGA_STATICLIB", "../target/staticlib");
+    let archive = folder.join("libffi.a");
+    println!("cargo:rerun-if-changed={}", archive.display());
+    assert!(archive.exists(), "no {}: `rt staticlib ffi` makes it", archive.display());
+    println!("cargo:rustc-link-search=native={}", folder.display());
+    println!("cargo:rustc-link-lib=static=ffi");
+}
+
+/// A module by its path compiles the file as it stands, inner comments too, which `include!` refuses.
+fn name_reference() {
+    let source = place("REFERENCE_VALUE_RS", "../../shared/docs/src/src/value.rs");
+    println!("cargo:rerun-if-changed={}", source.display());
+    let source = source
+        .canonicalize()
+        .unwrap_or_else(|e| panic!("no reference at {}: {e}; REFERENCE_VALUE_RS can name it", source.display()));
+    let module = format!("#[allow(warnings)]\n#[path = {:?}]\npub mod value;\n", source.to_str().unwrap());
+    let out = PathBuf::from(env::var_os("OUT_DIR").unwrap());
+    fs::write(out.join("reference.rs"), module).unwrap();
+}
+
+fn main() {
+    link_library();
+    if env::var_os("CARGO_FEATURE_REFERENCE").is_some() {
+        name_reference();
+    }
+}

@@ -1,0 +1,44 @@
+//! Four-state vectors (0, 1, x, z): a safe binding of the proved library.
+//!
+//! A vector is a width and two planes of 64-bit words, value and unknown. Bit i is bit i mod 64 of word i div 64 of each plane: 0 is stored
+//! as (0,0), 1 as (1,0), x as (0,1) and z as (1,1); bits at or above the width are 0. A plane has exactly [`planes::word_count`] words.
+//! The caller keeps the planes and lends them to each call; nothing is allocated, and nothing is asked of them: whatever is handed over,
+//! a call gives its result, or one [`Refusal`] and then no lent word has changed.
+//!
+//! ```
+//! use vowherunga::{planes, value, LogicBit, Refusal};
+//!
+//! # fn main() -> Result<(), Refusal> {
+//! // A vector of 65 bits, all x.
+//! let words = planes::word_count(65);
+//! let (mut v, mut u) = (vec![0; words], vec![0; words]);
+//! let header = value::new(65, &mut v, &mut u)?;
+//! assert_eq!((header.width, header.is_signed), (65, false));
+//!
+//! // Its top bit becomes 1; bit 0 is still x.
+//! planes::set(header.width, &mut v, &mut u, 64, LogicBit::One)?;
+//! assert_eq!(planes::get(header.width, &v, &u, 64)?, LogicBit::One);
+//! assert_eq!(planes::get(header.width, &v, &u, 0)?, LogicBit::X);
+//!
+//! // At width 64 the planes have a word too many.
+//! let refused = planes::get(64, &v, &u, 0);
+//! assert_eq!(refused, Err(Refusal::PlaneLength));
+//! assert_eq!(refused.unwrap_err().number(), 2);
+//! # Ok(())
+//! # }
+//! ```
+//!
+//! The feature `reference` adds the Rust program whose behaviour the library keeps, for comparisons; it needs that program's source.
+mod bit;
+pub mod planes;
+mod raw;
+mod refusal;
+pub mod value;
+
+#[cfg(feature = "reference")]
+pub mod reference;
+
+pub use bit::LogicBit;
+pub use planes::{Word, MAX_WIDTH};
+pub use refusal::Refusal;
+pub use value::Header;

@@ -1,0 +1,70 @@
+//! Why a call was not done.
+use std::{error::Error, fmt};
+
+/// The refusals by name; [`Refusal::number`] gives the number of each.
+#[derive(Clone, Copy, Debug, PartialEq, Eq, Hash)]
+pub enum Refusal {
+    /// 1: the width is above 1,048,576.
+    TooWide = 1,
+    /// 2: a plane is not exactly its word count; a float's planes are not empty.
+    PlaneLength = 2,
+    /// 3: a bit is set at or above the width.
+    BitAboveWidth = 3,
+    /// 4: a fill of width 0.
+    EmptyFill = 4,
+    /// 5: an output plane is not exactly the result's word count.
+    OutputLength = 5,
+    /// 6: the step list breaks its format or its 65,536 bytes.
+    BadFormat = 6,
+    /// 7: the arms of sel differ in width, or one is a fill.
+    BadArms = 7,
+    /// 11: an operand names a cell that is not yet filled.
+    NoSuchCell = 11,
+    /// 12: there are 320 cells already.
+    StoreFull = 12,
+    /// 13: an arena behind the last cell, or a scratch plane, has too few words.
+    NoRoom = 13,
+    /// 14: the arenas differ in length, or store and arenas disagree.
+    BadStore = 14,
+}
+
+impl Refusal {
+    pub const ALL: [Refusal; 11] = [
+        Refusal::TooWide,
+        Refusal::PlaneLength,
+        Refusal::BitAboveWidth,
+        Refusal::EmptyFill,
+        Refusal::OutputLength,
+        Refusal::BadFormat,
+        Refusal::BadArms,
+        Refusal::NoSuchCell,
+        Refusal::StoreFull,
+        Refusal::NoRoom,
+        Refusal::BadStore,
+    ];
+
+    pub fn number(self) -> u8 {
+        self as u8
+    }
+
+    /// The refusal that has the number, if one has.
+    pub fn from_number(number: u8) -> Option<Refusal> {
+        Refusal::ALL.into_iter().find(|r| r.number() == number)
+    }
+
+    /// What a call that answers 0 or a refusal's number says.
+    pub(crate) fn of_call(answer: u8) -> Result<(), Refusal> {
+        match answer {
+            0 => Ok(()),
+            n => Err(Refusal::from_number(n).unwrap_or_else(|| unreachable!("no refusal has the number {n}"))),
+        }
+    }
+}
+
+impl fmt::Display for Refusal {
+    fn fmt(&self, f: &mut fmt::Formatter) -> fmt::Result {
+        write!(f, "refused by {}: {self:?}", self.number())
+    }
+}
+
+impl Error for Refusal {}
