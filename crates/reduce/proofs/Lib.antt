@@ -1,0 +1,5 @@
+pub mod Gather
+pub mod Places
+pub mod Scan
+pub mod Parity
+pub mod Folds

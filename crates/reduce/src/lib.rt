@@ -1,0 +1,130 @@
+// Answers of one bit from one vector: the reductions, truth, and the logical operators on truths.
+use bit::LogicBit;
+use planes::BitAnswer;
+use refusal::Refusal;
+use refusal::Verdict;
+use value::Header;
+use value::Operand;
+ghost use mathlib.Core.Path.{_≡_};
+ghost use mathlib.Core.Bool.{cond};
+ghost use Rattle.bit.specs.Rules.{andBit, orBit};
+ghost use Rattle.words.specs.Planes.{lent};
+ghost use Rattle.planes.specs.Entries.{bitAnswer};
+ghost use Rattle.reduce.specs.Reduce.{reduceAnd, reduceOr, reduceXor, reduction, truthBit, truthAnswer, isNonzero, combined, logicAnd, logicOr};
+
+pub mod inner;
+
+// Whether an operand counts as true; unknown where its unknown bits decide.
+pub enum Truth {
+    False,
+    True,
+    Unknown,
+}
+
+pub enum TruthAnswer {
+    Truth(Truth),
+    Refused(Refusal),
+}
+
+// A truth as a bit: 0, 1, or x where it is unknown.
+pub fn truth_bit(t: Truth) -> LogicBit
+    ensures { λ r. ⌜ r ≡ truthBit t ⌝ }
+{
+    match t {
+        Truth::False => LogicBit::Zero,
+        Truth::True => LogicBit::One,
+        Truth::Unknown => LogicBit::X,
+    }
+}
+
+// 0 on any known 0, else x on any unknown bit, else 1.
+pub fn reduce_and(h: Header, value: &[u64], unknown: &[u64]) -> BitAnswer
+    ensures { λ r. ⌜ bitAnswer r ≡ reduction reduceAnd h (lent (now (value .entry)) (now (unknown .entry))) ⌝ }
+{
+    let width = h.width;
+    match value::check_vector(h, value, unknown) {
+        Verdict::Refused(r) => BitAnswer::Refused(r),
+        Verdict::Accepted => BitAnswer::Bit(inner::and_bits(width, value, unknown)),
+    }
+}
+
+// 1 on any known 1, else x on any unknown bit, else 0.
+pub fn reduce_or(h: Header, value: &[u64], unknown: &[u64]) -> BitAnswer
+    ensures { λ r. ⌜ bitAnswer r ≡ reduction reduceOr h (lent (now (value .entry)) (now (unknown .entry))) ⌝ }
+{
+    let width = h.width;
+    match value::check_vector(h, value, unknown) {
+        Verdict::Refused(r) => BitAnswer::Refused(r),
+        Verdict::Accepted => BitAnswer::Bit(inner::or_bits(width, value, unknown)),
+    }
+}
+
+// x on any unknown bit, else whether the number of ones is odd.
+pub fn reduce_xor(h: Header, value: &[u64], unknown: &[u64]) -> BitAnswer
+    ensures { λ r. ⌜ bitAnswer r ≡ reduction reduceXor h (lent (now (value .entry)) (now (unknown .entry))) ⌝ }
+{
+    let width = h.width;
+    match value::check_vector(h, value, unknown) {
+        Verdict::Refused(r) => BitAnswer::Refused(r),
+        Verdict::Accepted => BitAnswer::Bit(inner::xor_bits(width, value, unknown)),
+    }
+}
+
+// True on a known 1, else unknown on an unknown bit, else false; a real is true if not equal to 0.
+pub fn is_nonzero(o: Operand, value: &[u64], unknown: &[u64]) -> TruthAnswer
+    ensures { λ r. ⌜ truthAnswer r ≡ isNonzero o (lent (now (value .entry)) (now (unknown .entry))) ⌝ }
+{
+    match value::check_operand(o, value, unknown) {
+        Verdict::Refused(r) => TruthAnswer::Refused(r),
+        Verdict::Accepted => TruthAnswer::Truth(inner::operand_truth(o, value, unknown)),
+    }
+}
+
+// The truths of two operands, combined by the rule of and, or by that of or.
+fn combine(
+    by_and: bool,
+    a: Operand,
+    av: &[u64],
+    au: &[u64],
+    b: Operand,
+    bv: &[u64],
+    bu: &[u64],
+) -> BitAnswer
+    ensures { λ r. ⌜ bitAnswer r ≡ combined (cond «by_and» andBit orBit) a (lent (now (av .entry)) (now (au .entry))) b (lent (now (bv .entry)) (now (bu .entry))) ⌝ }
+{
+    match is_nonzero(a, av, au) {
+        TruthAnswer::Refused(r) => BitAnswer::Refused(r),
+        TruthAnswer::Truth(x) => match is_nonzero(b, bv, bu) {
+            TruthAnswer::Refused(r) => BitAnswer::Refused(r),
+            TruthAnswer::Truth(y) => {
+                let left = truth_bit(x);
+                let right = truth_bit(y);
+                if by_and {
+                    return BitAnswer::Bit(bit::and(left, right));
+                }
+                BitAnswer::Bit(bit::or(left, right))
+            }
+        },
+    }
+}
+
+// 0 if either operand is false, 1 if both are true, else x.
+pub fn logic_and(
+    a: Operand,
+    av: &[u64],
+    au: &[u64],
+    b: Operand,
+    bv: &[u64],
+    bu: &[u64],
+) -> BitAnswer
+    ensures { λ r. ⌜ bitAnswer r ≡ logicAnd a (lent (now (av .entry)) (now (au .entry))) b (lent (now (bv .entry)) (now (bu .entry))) ⌝ }
+{
+    combine(true, a, av, au, b, bv, bu)
+}
+
+// 1 if either operand is true, 0 if both are false, else x.
+pub fn logic_or(a: Operand, av: &[u64], au: &[u64], b: Operand, bv: &[u64], bu: &[u64]) -> BitAnswer
+    ensures { λ r. ⌜ bitAnswer r ≡ logicOr a (lent (now (av .entry)) (now (au .entry))) b (lent (now (bv .entry)) (now (bu .entry))) ⌝ }
+{
+    combine(false, a, av, au, b, bv, bu)
+}
