@@ -28,7 +28,7 @@ enum Entry {
     FromU64,
 }
 
-fn planes_entry(name: &[u8]) -> Entry {
+fn entry_of(name: &[u8]) -> Entry {
     if same(name, b"get") {
         return Entry::Get;
     }
@@ -44,10 +44,6 @@ fn planes_entry(name: &[u8]) -> Entry {
     if same(name, b"mask_top") {
         return Entry::MaskTop;
     }
-    value_entry(name)
-}
-
-fn value_entry(name: &[u8]) -> Entry {
     if same(name, b"new") {
         return Entry::New;
     }
@@ -55,10 +51,6 @@ fn value_entry(name: &[u8]) -> Entry {
         return Entry::Zero;
     }
     Entry::FromU64
-}
-
-fn number(line: &[u8], k: usize) -> usize {
-    decimal(field(line, k)) as usize
 }
 
 // What a call gives, besides what it leaves in the planes.
@@ -105,23 +97,30 @@ fn of_vector(a: VectorAnswer) -> Answer {
 
 // The entries that write nothing.
 fn read(e: Entry, line: &[u8], width: u32, value: &[u64], unknown: &[u64]) -> Answer {
-    let i = number(line, 4);
+    let i = decimal(field(line, 4)) as usize;
     match e {
         Entry::Get => of_bit(planes::get(width, value, unknown, i)),
-        _ => of_word(planes::extract64(width, value, unknown, i, number(line, 5))),
+        _ => of_word(planes::extract64(width, value, unknown, i, decimal(field(line, 5)) as usize)),
     }
 }
 
 // The entries that change a vector.
 fn write(e: Entry, line: &[u8], width: u32, value: &mut [u64], unknown: &mut [u64]) -> Verdict {
-    let i = number(line, 4);
+    let i = decimal(field(line, 4)) as usize;
     let bits = word(field(line, 5));
     match e {
         Entry::Set => {
             let bit = bit::from_code((bits.value % 2 + bits.unknown % 2 * 2) as u8);
             planes::set(width, value, unknown, i, bit)
         }
-        Entry::Splice64 => planes::splice64(width, value, unknown, i, bits, number(line, 6)),
+        Entry::Splice64 => planes::splice64(
+            width,
+            value,
+            unknown,
+            i,
+            bits,
+            decimal(field(line, 6)) as usize,
+        ),
         _ => planes::mask_top(width, value, unknown),
     }
 }
@@ -136,7 +135,7 @@ fn make(e: Entry, line: &[u8], width: u32, value: &mut [u64], unknown: &mut [u64
 }
 
 fn call(line: &[u8], width: u32, value: &mut [u64], unknown: &mut [u64]) -> Answer {
-    let e = planes_entry(field(line, 2));
+    let e = entry_of(field(line, 2));
     match e {
         Entry::Get | Entry::Extract64 => read(e, line, width, value, unknown),
         Entry::Set | Entry::Splice64 | Entry::MaskTop => of_verdict(write(
@@ -159,11 +158,6 @@ fn call(line: &[u8], width: u32, value: &mut [u64], unknown: &mut [u64]) -> Answ
 // Whether the planes hold those bits.
 fn are_bits(bits: &[u8], value: &[u64], unknown: &[u64]) -> bool {
     holds(bits, 1, value) && holds(bits, 2, unknown)
-}
-
-fn is_word(answer: &[u8], w: Word) -> bool {
-    let want = word(answer);
-    want.value == w.value && want.unknown == w.unknown
 }
 
 // The letter of a header's marks.
@@ -199,7 +193,10 @@ fn is_refusal(answer: &[u8], r: Refusal) -> bool {
 fn is_answer(line: &[u8], a: Answer, value: &[u64], unknown: &[u64]) -> bool {
     let answer = field(line, 0);
     match a {
-        Answer::Word(w) => is_word(answer, w),
+        Answer::Word(w) => {
+            let want = word(answer);
+            want.value == w.value && want.unknown == w.unknown
+        }
         Answer::Done => are_bits(answer, value, unknown),
         Answer::Vector(h) => is_header(answer, h, value, unknown),
         Answer::Refused(r) => is_refusal(answer, r)
@@ -235,21 +232,15 @@ fn put(s: &[u8]) {
     io::write_all(STDOUT_FILENO, s);
 }
 
-fn put_line(line: &[u8]) {
-    put(line);
-    put(b"\n");
-}
-
 // Writes a line if it differs, and else if it is to be shown.
 fn report(line: &[u8], agrees: bool, show: bool) {
-    if agrees {
-        if show {
-            put_line(line);
-        }
-    } else {
+    if !agrees {
         put(b"differs: ");
-        put_line(line);
+    } else if !show {
+        return;
     }
+    put(line);
+    put(b"\n");
 }
 
 // Works the lines, and counts those that agree.

@@ -139,13 +139,9 @@ pub(crate) struct Extent {
     pub(crate) unknown: usize,
 }
 
-// Whether a vector is its bits alone.
-fn is_plain(vector: &[u8]) -> bool {
-    until(vector, 0, b':') == vector.len()
-}
-
+// A vector without a colon is its bits alone.
 pub(crate) fn extent_of(vector: &[u8]) -> Extent {
-    if is_plain(vector) {
+    if until(vector, 0, b':') == vector.len() {
         let w = (vector.len() % 0x1_0000_0000) as u32;
         let n = words::word_count(w);
         return Extent {
@@ -162,7 +158,7 @@ pub(crate) fn extent_of(vector: &[u8]) -> Extent {
 }
 
 pub(crate) fn digits(vector: &[u8]) -> &[u8] {
-    if is_plain(vector) {
+    if until(vector, 0, b':') == vector.len() {
         return vector;
     }
     part(vector, 3, b':')
