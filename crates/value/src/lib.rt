@@ -13,6 +13,7 @@ ghost use Rattle.words.specs.Planes.{lent};
 ghost use Rattle.value.specs.Checks.{checkVector, checkPair, checkOperand, checkOutput, vectorAnswer};
 ghost use Rattle.value.specs.Constructors.{clamped, plain, constructed, newVector, zeroVector, fromU64};
 
+#[repr(C)]
 pub struct Header {
     pub width: u32,
     pub is_signed: bool,

@@ -1,0 +1,62 @@
+-- The answers of the entries as they cross to C: a refusal is its number of document 01 and 0 where the call was done, a bit is its code, and
+-- what a refused call leaves unsaid is 0.
+use mathlib.Core.Bool.{Bool, false, cond}
+use Prim.Native.Nat.{ℕ}
+use Rattle.bit.specs.declared.LogicBit.{LogicBit}
+use Rattle.bit.specs.Rules.{code}
+use Rattle.refusal.specs.Outcome.{Answer, Outcome}
+use Rattle.refusal.specs.Outcome.Answer.{given, refused}
+use Rattle.words.specs.declared.Word.{Word}
+use Rattle.words.specs.Planes.{Planes}
+use Rattle.value.specs.declared.Header.{Header}
+use Rattle.value.specs.declared.Operand.{Operand}
+use Rattle.value.specs.declared.Operand.the-variants as operand
+use Rattle.reduce.specs.declared.Truth.{Truth}
+use Rattle.reduce.specs.Reduce.{truthBit}
+use Rattle.coded.specs.declared.BitResult.{BitResult}
+use Rattle.coded.specs.declared.WordResult.{WordResult}
+use Rattle.coded.specs.declared.HeaderResult.{HeaderResult}
+use Rattle.coded.specs.declared.OperandArgument.{OperandArgument}
+
+abbrev pub codedDone : Answer Unit → ℕ
+codedDone (given u) = 0
+codedDone (refused n) = n
+
+abbrev pub codedBit : Answer LogicBit → BitResult
+codedBit (given b) = record { refusal = 0; bit = code b }
+codedBit (refused n) = record { refusal = n; bit = 0 }
+
+abbrev pub codedWord : Answer Word → WordResult
+codedWord (given w) = record { refusal = 0; value = w .value; unknown = w .unknown }
+codedWord (refused n) = record { refusal = n; value = 0; unknown = 0 }
+
+abbrev pub codedHeader : Answer Header → HeaderResult
+codedHeader (given h) = record { refusal = 0; width = h .width; «is_signed» = h .«is_signed»; «is_fill» = h .«is_fill» }
+codedHeader (refused n) = record { refusal = n; width = 0; «is_signed» = false; «is_fill» = false }
+
+-- no is 0, yes is 1
+abbrev pub codedChange : Answer Bool → BitResult
+codedChange (given c) = record { refusal = 0; bit = cond c 1 0 }
+codedChange (refused n) = record { refusal = n; bit = 0 }
+
+-- a truth by the code of its bit
+abbrev pub codedTruth : Answer Truth → BitResult
+codedTruth (given t) = record { refusal = 0; bit = code (truthBit t) }
+codedTruth (refused n) = record { refusal = n; bit = 0 }
+
+abbrev pub operandOf : OperandArgument → Operand
+operandOf a = cond (a .«is_real») (operand.Real (a .real)) (operand.Vector (a .header))
+
+-- a coded answer, and the lent planes as the call leaves them
+pub record Coded (C : Type 0) : Type 0 where
+  pub answer : C
+  pub left : Planes
+
+module _ {C : Type 0} where
+  abbrev pub coded : C → Planes → Coded C
+  coded c p = record { answer = c; left = p }
+
+module _ {A C : Type 0} where
+  -- an outcome with its answer coded
+  abbrev pub codedOutcome : (Answer A → C) → Outcome A Planes → Coded C
+  codedOutcome f o = coded (f (o .answer)) (o .left)

@@ -1,0 +1,153 @@
+// The answers of the entries as numbers, for C and Rust. A refusal is its number, and 0 is done; a bit is its code, a word of both planes two
+// numbers; what a refused call leaves unsaid is 0.
+use bitwise::ChangeAnswer;
+use planes::BitAnswer;
+use planes::WordAnswer;
+use reduce::TruthAnswer;
+use refusal::Verdict;
+use value::Header;
+use value::Operand;
+use value::VectorAnswer;
+ghost use mathlib.Core.Path.{_≡_};
+ghost use Rattle.refusal.specs.Outcome.{verdict};
+ghost use Rattle.planes.specs.Entries.{bitAnswer, wordAnswer};
+ghost use Rattle.value.specs.Checks.{vectorAnswer};
+ghost use Rattle.bitwise.specs.Bitwise.{changeAnswer};
+ghost use Rattle.reduce.specs.Reduce.{truthAnswer};
+ghost use Rattle.coded.specs.Coded.{codedDone, codedBit, codedWord, codedHeader, codedChange, codedTruth, operandOf};
+
+#[repr(C)]
+pub struct BitResult {
+    pub refusal: u8,
+    pub bit: u8,
+}
+
+#[repr(C)]
+pub struct WordResult {
+    pub refusal: u8,
+    pub value: u64,
+    pub unknown: u64,
+}
+
+#[repr(C)]
+pub struct HeaderResult {
+    pub refusal: u8,
+    pub width: u32,
+    pub is_signed: bool,
+    pub is_fill: bool,
+}
+
+// An operand of equality and truth: a real, or a vector's header.
+#[repr(C)]
+pub struct OperandArgument {
+    pub is_real: bool,
+    pub header: Header,
+    pub real: f64,
+}
+
+// 0 where the call was done.
+pub fn done(v: Verdict) -> u8
+    ensures { λ r. ⌜ r ≡ codedDone (verdict v) ⌝ }
+{
+    match v {
+        Verdict::Accepted => 0,
+        Verdict::Refused(r) => refusal::number(r),
+    }
+}
+
+// A bit by its code.
+pub fn bit_result(a: BitAnswer) -> BitResult
+    ensures { λ r. ⌜ r ≡ codedBit (bitAnswer a) ⌝ }
+{
+    match a {
+        BitAnswer::Bit(b) => BitResult {
+            refusal: 0,
+            bit: bit::to_code(b),
+        },
+        BitAnswer::Refused(r) => BitResult {
+            refusal: refusal::number(r),
+            bit: 0,
+        },
+    }
+}
+
+// A word of both planes.
+pub fn word_result(a: WordAnswer) -> WordResult
+    ensures { λ r. ⌜ r ≡ codedWord (wordAnswer a) ⌝ }
+{
+    match a {
+        WordAnswer::Bits(w) => WordResult {
+            refusal: 0,
+            value: w.value,
+            unknown: w.unknown,
+        },
+        WordAnswer::Refused(r) => WordResult {
+            refusal: refusal::number(r),
+            value: 0,
+            unknown: 0,
+        },
+    }
+}
+
+// The header of a vector that was written.
+pub fn header_result(a: VectorAnswer) -> HeaderResult
+    ensures { λ r. ⌜ r ≡ codedHeader (vectorAnswer a) ⌝ }
+{
+    match a {
+        VectorAnswer::Vector(h) => HeaderResult {
+            refusal: 0,
+            width: h.width,
+            is_signed: h.is_signed,
+            is_fill: h.is_fill,
+        },
+        VectorAnswer::Refused(r) => HeaderResult {
+            refusal: refusal::number(r),
+            width: 0,
+            is_signed: false,
+            is_fill: false,
+        },
+    }
+}
+
+// Whether an insert changed a bit: 0 is no, 1 is yes.
+pub fn change_result(a: ChangeAnswer) -> BitResult
+    ensures { λ r. ⌜ r ≡ codedChange (changeAnswer a) ⌝ }
+{
+    match a {
+        ChangeAnswer::Changed(c) => BitResult {
+            refusal: 0,
+            bit: c as u8,
+        },
+        ChangeAnswer::Refused(r) => BitResult {
+            refusal: refusal::number(r),
+            bit: 0,
+        },
+    }
+}
+
+// A truth by the code of its bit.
+pub fn truth_result(a: TruthAnswer) -> BitResult
+    ensures { λ r. ⌜ r ≡ codedTruth (truthAnswer a) ⌝ }
+{
+    match a {
+        TruthAnswer::Truth(t) => BitResult {
+            refusal: 0,
+            bit: bit::to_code(reduce::truth_bit(t)),
+        },
+        TruthAnswer::Refused(r) => BitResult {
+            refusal: refusal::number(r),
+            bit: 0,
+        },
+    }
+}
+
+// The operand that a number says: a real, or a vector by its header.
+pub fn operand(a: OperandArgument) -> Operand
+    ensures { λ r. ⌜ r ≡ operandOf a ⌝ }
+{
+    if a.is_real {
+        return Operand::Real(a.real);
+    }
+    let header = a.header;
+    Operand::Vector(header)
+}

@@ -1,0 +1,82 @@
+// The operators whose answer is a bit, by its code.
+use coded::BitResult;
+use coded::OperandArgument;
+use coded::bit_result;
+use coded::operand;
+use coded::truth_result;
+use value::Header;
+ghost use mathlib.Core.Path.{_≡_};
+ghost use Rattle.words.specs.Planes.{lent};
+ghost use Rattle.reduce.specs.Reduce.{reduceAnd, reduceOr, reduceXor, reduction, isNonzero, logicAnd, logicOr};
+ghost use Rattle.coded.specs.Coded.{codedBit, codedTruth, operandOf};
+
+// `reduce::reduce_and`
+#[no_mangle]
+pub extern "C" fn vowherunga_reduce_and(a: Header, value: &[u64], unknown: &[u64]) -> BitResult
+    ensures { λ r. ⌜ r ≡ codedBit (reduction reduceAnd a (lent (now (value .entry)) (now (unknown .entry)))) ⌝ }
+{
+    bit_result(reduce::reduce_and(a, value, unknown))
+}
+
+// `reduce::reduce_or`
+#[no_mangle]
+pub extern "C" fn vowherunga_reduce_or(a: Header, value: &[u64], unknown: &[u64]) -> BitResult
+    ensures { λ r. ⌜ r ≡ codedBit (reduction reduceOr a (lent (now (value .entry)) (now (unknown .entry)))) ⌝ }
+{
+    bit_result(reduce::reduce_or(a, value, unknown))
+}
+
+// `reduce::reduce_xor`
+#[no_mangle]
+pub extern "C" fn vowherunga_reduce_xor(a: Header, value: &[u64], unknown: &[u64]) -> BitResult
+    ensures { λ r. ⌜ r ≡ codedBit (reduction reduceXor a (lent (now (value .entry)) (now (unknown .entry)))) ⌝ }
+{
+    bit_result(reduce::reduce_xor(a, value, unknown))
+}
+
+// `reduce::is_nonzero`: 0 false, 1 true, 2 unknown
+#[no_mangle]
+pub extern "C" fn vowherunga_is_nonzero(
+    a: OperandArgument,
+    value: &[u64],
+    unknown: &[u64],
+) -> BitResult
+    ensures { λ r. ⌜ r ≡ codedTruth (isNonzero (operandOf a) (lent (now (value .entry)) (now (unknown .entry)))) ⌝ }
+{
+    let o = operand(a);
+    truth_result(reduce::is_nonzero(o, value, unknown))
+}
+
+// `reduce::logic_and`
+#[no_mangle]
+pub extern "C" fn vowherunga_logic_and(
+    a: OperandArgument,
+    av: &[u64],
+    au: &[u64],
+    b: OperandArgument,
+    bv: &[u64],
+    bu: &[u64],
+) -> BitResult
+    ensures { λ r. ⌜ r ≡ codedBit (logicAnd (operandOf a) (lent (now (av .entry)) (now (au .entry))) (operandOf b) (lent (now (bv .entry)) (now (bu .entry)))) ⌝ }
+{
+    let x = operand(a);
+    let y = operand(b);
+    bit_result(reduce::logic_and(x, av, au, y, bv, bu))
+}
+
+// `reduce::logic_or`
+#[no_mangle]
+pub extern "C" fn vowherunga_logic_or(
+    a: OperandArgument,
+    av: &[u64],
+    au: &[u64],
+    b: OperandArgument,
+    bv: &[u64],
+    bu: &[u64],
+) -> BitResult
+    ensures { λ r. ⌜ r ≡ codedBit (logicOr (operandOf a) (lent (now (av .entry)) (now (au .entry))) (operandOf b) (lent (now (bv .entry)) (now (bu .entry)))) ⌝ }
+{
+    let x = operand(a);
+    let y = operand(b);
+    bit_result(reduce::logic_or(x, av, au, y, bv, bu))
+}

@@ -1,0 +1,128 @@
+// The operators whose result is a vector.
+use coded::BitResult;
+use coded::HeaderResult;
+use coded::change_result;
+use coded::header_result;
+use value::Header;
+use words::Word;
+ghost use mathlib.Core.Path.{_≡_};
+ghost use Rattle.words.specs.Planes.{lent};
+ghost use Rattle.lanes.specs.declared.Bitwise.the-variants.{And, Or, Xor, Merge};
+ghost use Rattle.bitwise.specs.Bitwise.{bitwise, bitwiseNot, insert};
+ghost use Rattle.real.specs.Round.{fromReal};
+ghost use Rattle.coded.specs.Coded.{codedHeader, codedChange, coded, codedOutcome};
+
+// `bitwise::bitwise_and`
+#[no_mangle]
+pub extern "C" fn vowherunga_bitwise_and(
+    a: Header,
+    av: &[u64],
+    au: &[u64],
+    b: Header,
+    bv: &[u64],
+    bu: &[u64],
+    ov: &mut [u64],
+    ou: &mut [u64],
+) -> HeaderResult
+    ensures { λ r. ⌜ coded r (lent (now (ov .exit)) (now (ou .exit))) ≡ codedOutcome codedHeader (bitwise And a (lent (now (av .entry)) (now (au .entry))) b (lent (now (bv .entry)) (now (bu .entry))) (lent (now (ov .entry)) (now (ou .entry)))) ⌝ }
+{
+    header_result(bitwise::bitwise_and(a, av, au, b, bv, bu, ov, ou))
+}
+
+// `bitwise::bitwise_or`
+#[no_mangle]
+pub extern "C" fn vowherunga_bitwise_or(
+    a: Header,
+    av: &[u64],
+    au: &[u64],
+    b: Header,
+    bv: &[u64],
+    bu: &[u64],
+    ov: &mut [u64],
+    ou: &mut [u64],
+) -> HeaderResult
+    ensures { λ r. ⌜ coded r (lent (now (ov .exit)) (now (ou .exit))) ≡ codedOutcome codedHeader (bitwise Or a (lent (now (av .entry)) (now (au .entry))) b (lent (now (bv .entry)) (now (bu .entry))) (lent (now (ov .entry)) (now (ou .entry)))) ⌝ }
+{
+    header_result(bitwise::bitwise_or(a, av, au, b, bv, bu, ov, ou))
+}
+
+// `bitwise::bitwise_xor`
+#[no_mangle]
+pub extern "C" fn vowherunga_bitwise_xor(
+    a: Header,
+    av: &[u64],
+    au: &[u64],
+    b: Header,
+    bv: &[u64],
+    bu: &[u64],
+    ov: &mut [u64],
+    ou: &mut [u64],
+) -> HeaderResult
+    ensures { λ r. ⌜ coded r (lent (now (ov .exit)) (now (ou .exit))) ≡ codedOutcome codedHeader (bitwise Xor a (lent (now (av .entry)) (now (au .entry))) b (lent (now (bv .entry)) (now (bu .entry))) (lent (now (ov .entry)) (now (ou .entry)))) ⌝ }
+{
+    header_result(bitwise::bitwise_xor(a, av, au, b, bv, bu, ov, ou))
+}
+
+// `bitwise::merge_unknown`
+#[no_mangle]
+pub extern "C" fn vowherunga_merge_unknown(
+    a: Header,
+    av: &[u64],
+    au: &[u64],
+    b: Header,
+    bv: &[u64],
+    bu: &[u64],
+    ov: &mut [u64],
+    ou: &mut [u64],
+) -> HeaderResult
+    ensures { λ r. ⌜ coded r (lent (now (ov .exit)) (now (ou .exit))) ≡ codedOutcome codedHeader (bitwise Merge a (lent (now (av .entry)) (now (au .entry))) b (lent (now (bv .entry)) (now (bu .entry))) (lent (now (ov .entry)) (now (ou .entry)))) ⌝ }
+{
+    header_result(bitwise::merge_unknown(a, av, au, b, bv, bu, ov, ou))
+}
+
+// `bitwise::bitwise_not`
+#[no_mangle]
+pub extern "C" fn vowherunga_bitwise_not(
+    a: Header,
+    av: &[u64],
+    au: &[u64],
+    ov: &mut [u64],
+    ou: &mut [u64],
+) -> HeaderResult
+    ensures { λ r. ⌜ coded r (lent (now (ov .exit)) (now (ou .exit))) ≡ codedOutcome codedHeader (bitwiseNot a (lent (now (av .entry)) (now (au .entry))) (lent (now (ov .entry)) (now (ou .entry)))) ⌝ }
+{
+    header_result(bitwise::bitwise_not(a, av, au, ov, ou))
+}
+
+// `bitwise::splice_bits64`: 1 where a bit changed
+#[no_mangle]
+pub extern "C" fn vowherunga_splice_bits64(
+    a: Header,
+    value: &mut [u64],
+    unknown: &mut [u64],
+    pos: usize,
+    bits_value: u64,
+    bits_unknown: u64,
+    n: usize,
+) -> BitResult
+    ensures { λ r. ⌜ coded r (lent (now (value .exit)) (now (unknown .exit))) ≡ codedOutcome codedChange (insert a (lent (now (value .entry)) (now (unknown .entry))) pos (record { value = «bits_value»; unknown = «bits_unknown» }) n) ⌝ }
+{
+    let bits = Word {
+        value: bits_value,
+        unknown: bits_unknown,
+    };
+    change_result(bitwise::splice_bits64(a, value, unknown, pos, bits, n))
+}
+
+// `real::from_real_wrapped`
+#[no_mangle]
+pub extern "C" fn vowherunga_from_real_wrapped(
+    f: f64,
+    width: u32,
+    value: &mut [u64],
+    unknown: &mut [u64],
+) -> HeaderResult
+    ensures { λ r. ⌜ coded r (lent (now (value .exit)) (now (unknown .exit))) ≡ codedOutcome codedHeader (fromReal f width (lent (now (value .entry)) (now (unknown .entry)))) ⌝ }
+{
+    header_result(real::from_real_wrapped(f, width, value, unknown))
+}
