@@ -2,4 +2,5 @@
 // caller and does nothing but call its entry.
 pub mod answers;
 pub mod bits;
+pub mod narrow_words;
 pub mod vectors;

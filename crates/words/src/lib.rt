@@ -5,6 +5,7 @@ ghost use Rattle.words.specs.Planes.{wordCount};
 pub mod inner;
 
 // A word of the value plane and the word of the unknown plane beside it.
+#[repr(C)]
 pub struct Word {
     pub value: u64,
     pub unknown: u64,

@@ -1,0 +1,83 @@
+// Word forms, for vectors of at most 64 bits: a word of each plane in, a pair of words or the code of a bit out.
+use lanes::Bitwise;
+use words::Word;
+ghost use mathlib.Core.Path.{_≡_};
+ghost use Prim.Native.Nat.{min};
+ghost use Rattle.bit.specs.Rules.{code};
+ghost use Rattle.words.specs.Planes.{vectorOf, planesOf};
+ghost use Rattle.lanes.specs.declared.Bitwise.the-variants.{And, Or, Xor, Merge};
+ghost use Rattle.bitwise.specs.Bitwise.{joined, inverted};
+ghost use Rattle.reduce.specs.Reduce.{reduceAnd, reduceOr, reduceXor, truthOf, truthBit};
+ghost use Rattle.narrow.specs.Narrow.{single, plain64};
+
+// `narrow::join` by and
+#[no_mangle]
+pub extern "C" fn vowherunga_and_word(a: Word, b: Word) -> Word
+    ensures { λ r. ⌜ single r ≡ planesOf (joined And (plain64 a) (plain64 b)) ⌝ }
+{
+    narrow::join(Bitwise::And, a, b)
+}
+
+// `narrow::join` by or
+#[no_mangle]
+pub extern "C" fn vowherunga_or_word(a: Word, b: Word) -> Word
+    ensures { λ r. ⌜ single r ≡ planesOf (joined Or (plain64 a) (plain64 b)) ⌝ }
+{
+    narrow::join(Bitwise::Or, a, b)
+}
+
+// `narrow::join` by xor
+#[no_mangle]
+pub extern "C" fn vowherunga_xor_word(a: Word, b: Word) -> Word
+    ensures { λ r. ⌜ single r ≡ planesOf (joined Xor (plain64 a) (plain64 b)) ⌝ }
+{
+    narrow::join(Bitwise::Xor, a, b)
+}
+
+// `narrow::join` by merge
+#[no_mangle]
+pub extern "C" fn vowherunga_merge_word(a: Word, b: Word) -> Word
+    ensures { λ r. ⌜ single r ≡ planesOf (joined Merge (plain64 a) (plain64 b)) ⌝ }
+{
+    narrow::join(Bitwise::Merge, a, b)
+}
+
+// `narrow::not`
+#[no_mangle]
+pub extern "C" fn vowherunga_not_word(width: u32, a: Word) -> Word
+    ensures { λ r. ⌜ single r ≡ planesOf (inverted (vectorOf (min 64 width) (single a))) ⌝ }
+{
+    narrow::not(width, a)
+}
+
+// `narrow::reduce_and`
+#[no_mangle]
+pub extern "C" fn vowherunga_reduce_and_word(width: u32, a: Word) -> u8
+    ensures { λ r. ⌜ r ≡ code (reduceAnd (vectorOf (min 64 width) (single a))) ⌝ }
+{
+    bit::to_code(narrow::reduce_and(width, a))
+}
+
+// `narrow::reduce_or`
+#[no_mangle]
+pub extern "C" fn vowherunga_reduce_or_word(a: Word) -> u8
+    ensures { λ r. ⌜ r ≡ code (reduceOr (vectorOf 64 (single a))) ⌝ }
+{
+    bit::to_code(narrow::reduce_or(a))
+}
+
+// `narrow::reduce_xor`
+#[no_mangle]
+pub extern "C" fn vowherunga_reduce_xor_word(a: Word) -> u8
+    ensures { λ r. ⌜ r ≡ code (reduceXor (vectorOf 64 (single a))) ⌝ }
+{
+    bit::to_code(narrow::reduce_xor(a))
+}
+
+// `narrow::truth`: 0 false, 1 true, 2 unknown
+#[no_mangle]
+pub extern "C" fn vowherunga_truth_word(a: Word) -> u8
+    ensures { λ r. ⌜ r ≡ code (truthBit (truthOf (vectorOf 64 (single a)))) ⌝ }
+{
+    bit::to_code(reduce::truth_bit(narrow::truth(a)))
+}
