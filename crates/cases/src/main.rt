@@ -4,28 +4,33 @@
 //
 //     cargo run --offline --manifest-path rust/Cargo.toml --features reference --bin answers >crates/cases/data/answers
 //
-// A line is `ANSWER = NAME VECTOR OPERAND..`, with one space between. The call is lent a vector's planes, as
+// A line is `ANSWER = NAME OPERAND..`, with one space between. A vector is
 //
 //     BITS             the bits, highest first, in planes of their word count
 //     WIDTH:A:B:BITS   a width, and planes of A words and B words that start with the bits; the bits may reach above the width
 //
-// and these are the calls; an entry that writes is answered by the bits that it leaves in the planes, where leading zeros may be left out:
+// maybe behind a letter for its marks: `u` unsigned, as without a letter, `s` signed, `f` a fill, `g` a signed fill. A real is `r`, maybe a
+// minus, and a quotient: r-5/2; r1/0 is infinite, r0/0 is NaN. These are the calls:
 //
-//     BIT = get VECTOR I
-//     BITS = set VECTOR I BIT
-//     BITS = splice64 VECTOR POS BITS N
-//     BITS = extract64 VECTOR POS N
-//     BITS = mask_top VECTOR
-//     HEADER = new VECTOR
-//     HEADER = zero VECTOR
-//     HEADER = from_u64 VECTOR NUMBER
+//     BIT = get VECTOR I                       VECTOR = bitwise_and VECTOR VECTOR OUT, and so bitwise_or, bitwise_xor, merge_unknown
+//     BITS = set VECTOR I BIT                  VECTOR = bitwise_not VECTOR OUT
+//     BITS = splice64 VECTOR POS BITS N        BIT = splice_bits64 VECTOR POS BITS N
+//     BITS = extract64 VECTOR POS N            VECTOR = from_real_wrapped OUT REAL
+//     BITS = mask_top VECTOR                   BIT = reduce_and VECTOR, and so reduce_or, reduce_xor
+//     VECTOR = new OUT                         BIT = is_nonzero OPERAND
+//     VECTOR = zero OUT                        BIT = logic_and OPERAND OPERAND, and so logic_or, is_equal
+//     VECTOR = from_u64 OUT NUMBER             BIT = case_eq VECTOR VECTOR, and so casez_eq, casex_eq, wildcard_eq
 //
-// A header is `u` or `s`, unsigned or signed, or `f`, an unsigned fill, and the vector that is made. Where a call is refused, the answer is
-// `!` and the number of the refusal.
-mod calls;
+// OUT is what the planes lent for a result hold before the call. A call that writes and answers no vector is answered by the bits that it
+// leaves, where leading zeros may be left out. Where a call is refused, the answer is `!` and the number of the refusal, and the planes lent
+// for writing hold what they held.
+mod answer;
+mod bits;
+mod operators;
+mod table;
 mod text;
 
 fn main() {
-    calls::table(b"worked", true);
-    calls::table(b"answers", false);
+    table::work(b"worked", true);
+    table::work(b"answers", false);
 }

@@ -1,4 +1,6 @@
 // The parts of a line, numbers, and vectors as text.
+use coded::OperandArgument;
+use value::Header;
 use words::Word;
 ghost use Prim.Native.Nat.{_≤_, _<_};
 ghost use lib.ListN.{length};
@@ -60,15 +62,6 @@ pub(crate) fn decimal(s: &[u8]) -> u64 {
     n
 }
 
-fn code(digit: u8) -> u64 {
-    match digit {
-        b'0' => 0,
-        b'1' => 1,
-        b'x' => 2,
-        _ => 3,
-    }
-}
-
 // Bit i of the plane of those digits of the bits' codes that the divisor picks: 1 for the value plane, 2 for the unknown plane.
 fn plane_bit(bits: &[u8], divisor: u64, i: usize) -> u64
     requires { ⌜ 0 < divisor ⌝ }
@@ -76,7 +69,13 @@ fn plane_bit(bits: &[u8], divisor: u64, i: usize) -> u64
     if bits.len() <= i {
         return 0;
     }
-    code(bits[bits.len() - 1 - i]) / divisor % 2
+    let code = match bits[bits.len() - 1 - i] {
+        b'0' => 0,
+        b'1' => 1,
+        b'x' => 2,
+        _ => 3,
+    };
+    code / divisor % 2
 }
 
 // The word of that plane that starts at bit i.
@@ -132,32 +131,75 @@ pub(crate) fn holds(bits: &[u8], divisor: u64, plane: &[u64]) -> bool
     true
 }
 
-// A width, and how many words each plane has.
+// A real: `r`, maybe a minus, and a quotient of two numbers, as r-5/2.
+pub(crate) fn real(s: &[u8]) -> f64 {
+    let n = std::num::nearest_u64_to_f64(decimal(part(bare(bare(s)), 0, b'/')));
+    let d = std::num::nearest_u64_to_f64(decimal(part(s, 1, b'/')));
+    if until(s, 0, b'-') < s.len() {
+        return -n / d;
+    }
+    n / d
+}
+
+// What follows the letter of a vector's marks, or the minus of a real.
+fn bare(s: &[u8]) -> &[u8] {
+    if s.len() == 0 {
+        return s;
+    }
+    match s[0] {
+        b'u' | b's' | b'f' | b'g' | b'r' | b'-' => &s[1..],
+        _ => s,
+    }
+}
+
+// A vector's header and how many words each plane has.
 pub(crate) struct Extent {
-    pub(crate) width: u32,
+    pub(crate) header: Header,
     pub(crate) value: usize,
     pub(crate) unknown: usize,
 }
 
-// A vector without a colon is its bits alone.
-pub(crate) fn extent_of(vector: &[u8]) -> Extent {
-    if until(vector, 0, b':') == vector.len() {
-        let w = (vector.len() % 0x1_0000_0000) as u32;
-        let n = words::word_count(w);
-        return Extent {
-            width: w,
-            value: n,
-            unknown: n,
-        };
-    }
+fn marked(s: &[u8], width: u64, value: usize, unknown: usize) -> Extent {
+    let letter = if s.len() == 0 { b'u' } else { s[0] };
     Extent {
-        width: (decimal(part(vector, 0, b':')) % 0x1_0000_0000) as u32,
-        value: decimal(part(vector, 1, b':')) as usize,
-        unknown: decimal(part(vector, 2, b':')) as usize,
+        header: Header {
+            width: (width % 0x1_0000_0000) as u32,
+            is_signed: letter == b's' || letter == b'g',
+            is_fill: letter == b'f' || letter == b'g',
+        },
+        value: value,
+        unknown: unknown,
     }
 }
 
-pub(crate) fn digits(vector: &[u8]) -> &[u8] {
+// A vector without a colon is its bits alone; a real has no planes.
+pub(crate) fn extent_of(s: &[u8]) -> Extent {
+    let vector = bare(s);
+    if until(s, 0, b'r') < s.len() {
+        return marked(s, 0, 0, 0);
+    }
+    if until(vector, 0, b':') == vector.len() {
+        let n = words::word_count((vector.len() % 0x1_0000_0000) as u32);
+        return marked(s, vector.len() as u64, n, n);
+    }
+    let width = decimal(part(vector, 0, b':'));
+    let value = decimal(part(vector, 1, b':')) as usize;
+    let unknown = decimal(part(vector, 2, b':')) as usize;
+    marked(s, width, value, unknown)
+}
+
+pub(crate) fn operand(s: &[u8]) -> OperandArgument {
+    let e = extent_of(s);
+    let header = e.header;
+    OperandArgument {
+        is_real: until(s, 0, b'r') < s.len(),
+        header: header,
+        real: real(s),
+    }
+}
+
+pub(crate) fn digits(s: &[u8]) -> &[u8] {
+    let vector = bare(s);
     if until(vector, 0, b':') == vector.len() {
         return vector;
     }

@@ -1,0 +1,86 @@
+// The calls of operators, whose operands are only read.
+use crate::answer::Answer;
+use crate::answer::of_bit;
+use crate::answer::of_vector;
+use crate::text::field;
+use crate::text::operand;
+use check::same;
+use coded::OperandArgument;
+use ffi::answers::vowherunga_is_nonzero;
+use ffi::answers::vowherunga_logic_and;
+use ffi::answers::vowherunga_logic_or;
+use ffi::answers::vowherunga_reduce_and;
+use ffi::answers::vowherunga_reduce_or;
+use ffi::answers::vowherunga_reduce_xor;
+use ffi::vectors::vowherunga_bitwise_and;
+use ffi::vectors::vowherunga_bitwise_not;
+use ffi::vectors::vowherunga_bitwise_or;
+use ffi::vectors::vowherunga_bitwise_xor;
+use ffi::vectors::vowherunga_merge_unknown;
+use value::Header;
+
+// An answer bit of one operand.
+pub(crate) fn of_one(name: &[u8], a: OperandArgument, av: &[u64], au: &[u64]) -> Answer {
+    if same(name, b"reduce_and") {
+        return of_bit(vowherunga_reduce_and(a.header, av, au));
+    }
+    if same(name, b"reduce_or") {
+        return of_bit(vowherunga_reduce_or(a.header, av, au));
+    }
+    if same(name, b"reduce_xor") {
+        return of_bit(vowherunga_reduce_xor(a.header, av, au));
+    }
+    if same(name, b"is_nonzero") {
+        return of_bit(vowherunga_is_nonzero(a, av, au));
+    }
+    Answer::NoCall
+}
+
+// An answer bit of two operands.
+pub(crate) fn of_two(
+    name: &[u8],
+    a: OperandArgument,
+    av: &[u64],
+    au: &[u64],
+    b: OperandArgument,
+    bv: &[u64],
+    bu: &[u64],
+) -> Answer {
+    if same(name, b"logic_and") {
+        return of_bit(vowherunga_logic_and(a, av, au, b, bv, bu));
+    }
+    if same(name, b"logic_or") {
+        return of_bit(vowherunga_logic_or(a, av, au, b, bv, bu));
+    }
+    Answer::NoCall
+}
+
+// A vector of two operands, or of the first.
+pub(crate) fn into(
+    name: &[u8],
+    a: Header,
+    av: &[u64],
+    au: &[u64],
+    b: Header,
+    bv: &[u64],
+    bu: &[u64],
+    ov: &mut [u64],
+    ou: &mut [u64],
+) -> Answer {
+    if same(name, b"bitwise_and") {
+        return of_vector(vowherunga_bitwise_and(a, av, au, b, bv, bu, ov, ou));
+    }
+    if same(name, b"bitwise_or") {
+        return of_vector(vowherunga_bitwise_or(a, av, au, b, bv, bu, ov, ou));
+    }
+    if same(name, b"bitwise_xor") {
+        return of_vector(vowherunga_bitwise_xor(a, av, au, b, bv, bu, ov, ou));
+    }
+    if same(name, b"merge_unknown") {
+        return of_vector(vowherunga_merge_unknown(a, av, au, b, bv, bu, ov, ou));
+    }
+    if same(name, b"bitwise_not") {
+        return of_vector(vowherunga_bitwise_not(a, av, au, ov, ou));
+    }
+    Answer::NoCall
+}
