@@ -45,6 +45,14 @@ pub(crate) fn of_done(refusal: u8) -> Answer {
     Answer::Left
 }
 
+// An insert that says whether a bit changed, as it should.
+pub(crate) fn of_change(r: BitResult, changed: u64) -> Answer {
+    if r.refusal == 0 && r.bit as u64 != changed {
+        return Answer::NoCall;
+    }
+    of_done(r.refusal)
+}
+
 pub(crate) fn of_vector(r: HeaderResult) -> Answer {
     if r.refusal != 0 {
         return Answer::Refused(r.refusal);

@@ -1,6 +1,7 @@
 // The calls on one vector that is lent for writing.
 use crate::answer::Answer;
 use crate::answer::of_bit;
+use crate::answer::of_change;
 use crate::answer::of_done;
 use crate::answer::of_vector;
 use crate::answer::of_word;
@@ -38,7 +39,8 @@ fn places(line: &[u8], i: usize, h: Header, value: &mut [u64], unknown: &mut [u6
         return of_done(vowherunga_splice64(width, value, unknown, i, bits.value, bits.unknown, n));
     }
     if same(name, b"splice_bits64") {
-        return of_bit(vowherunga_splice_bits64(h, value, unknown, i, bits.value, bits.unknown, n));
+        let r = vowherunga_splice_bits64(h, value, unknown, i, bits.value, bits.unknown, n);
+        return of_change(r, decimal(field(line, 7)));
     }
     if same(name, b"extract64") {
         return of_word(vowherunga_extract64(

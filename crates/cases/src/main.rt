@@ -14,7 +14,7 @@
 //
 //     BIT = get VECTOR I                       VECTOR = bitwise_and VECTOR VECTOR OUT, and so bitwise_or, bitwise_xor, merge_unknown
 //     BITS = set VECTOR I BIT                  VECTOR = bitwise_not VECTOR OUT
-//     BITS = splice64 VECTOR POS BITS N        BIT = splice_bits64 VECTOR POS BITS N
+//     BITS = splice64 VECTOR POS BITS N        BITS = splice_bits64 VECTOR POS BITS N CHANGED
 //     BITS = extract64 VECTOR POS N            VECTOR = from_real_wrapped OUT REAL
 //     BITS = mask_top VECTOR                   BIT = reduce_and VECTOR, and so reduce_or, reduce_xor
 //     VECTOR = new OUT                         BIT = is_nonzero OPERAND
@@ -22,7 +22,7 @@
 //     VECTOR = from_u64 OUT NUMBER             BIT = case_eq VECTOR VECTOR, and so casez_eq, casex_eq, wildcard_eq
 //
 // OUT is what the planes lent for a result hold before the call. A call that writes and answers no vector is answered by the bits that it
-// leaves, where leading zeros may be left out. Where a call is refused, the answer is `!` and the number of the refusal, and the planes lent
+// leaves, where leading zeros may be left out; CHANGED is 1 or 0. Where a call is refused, the answer is `!` and the number of the refusal, and the planes lent
 // for writing hold what they held.
 mod answer;
 mod bits;
