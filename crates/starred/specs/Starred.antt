@@ -1,0 +1,60 @@
+-- The cases of document 01, "Cases on either side", that are marked with a star, over the definitions that the contracts cite. A vector is
+-- written highest bit first, each bit by its code: 0, 1, x or z.
+use mathlib.Core.Bool.{Bool, true, false, _&&_}
+use mathlib.Core.List.{List, [], _∷_, map, reverse}
+use Prim.Native.Nat.{ℕ}
+use lib.ListN.{length}
+use Rattle.bit.specs.declared.LogicBit.{LogicBit}
+use Rattle.bit.specs.Rules.{ofCode, same}
+use Rattle.value.specs.Checks.{Vector}
+use Rattle.lanes.specs.declared.Bitwise.the-variants.{And, Or, Xor, Merge}
+use Rattle.bitwise.specs.Bitwise.{joined, inverted}
+use Rattle.reduce.specs.Reduce.{reduceAnd, reduceOr, reduceXor}
+
+abbrev x : ℕ
+x = 2
+
+abbrev z : ℕ
+z = 3
+
+abbrev bits : List ℕ → List LogicBit
+bits codes = reverse (map ofCode codes)
+
+-- an unsigned vector
+abbrev u : List ℕ → Vector
+u codes = record { header = record { width = length codes; «is_signed» = false; «is_fill» = false }; bits = bits codes }
+
+-- a signed vector
+abbrev s : List ℕ → Vector
+s codes = record { header = record { width = length codes; «is_signed» = true; «is_fill» = false }; bits = bits codes }
+
+-- what a definition gives, and what document 01 says
+pub record Case : Type 0 where
+  pub given : List LogicBit
+  pub said : List LogicBit
+
+infixl 90 _is_
+abbrev _is_ : List LogicBit → List ℕ → Case
+given is said = record { given = given; said = bits said }
+
+abbrev sameBits : List LogicBit → List LogicBit → Bool
+sameBits [] [] = true
+sameBits [] (b ∷ bs) = false
+sameBits (a ∷ rest) [] = false
+sameBits (a ∷ rest) (b ∷ bs) = same a b && sameBits rest bs
+
+abbrev pub hold : List Case → Bool
+hold [] = true
+hold (c ∷ cs) = sameBits (c .given) (c .said) && hold cs
+
+abbrev pub starred : List Case
+starred =
+    joined And (u (0 ∷ 1 ∷ x ∷ z ∷ [])) (u (1 ∷ 1 ∷ 1 ∷ 1 ∷ [])) is (0 ∷ 1 ∷ x ∷ x ∷ [])
+    ∷ joined Or (u (0 ∷ 1 ∷ x ∷ z ∷ [])) (u (1 ∷ 1 ∷ 1 ∷ 0 ∷ [])) is (1 ∷ 1 ∷ 1 ∷ x ∷ [])
+    ∷ joined Xor (u (1 ∷ x ∷ [])) (u (1 ∷ 1 ∷ [])) is (0 ∷ x ∷ [])
+    ∷ inverted (u (0 ∷ z ∷ 1 ∷ []) .bits) is (1 ∷ x ∷ 0 ∷ [])
+    ∷ joined Merge (u (1 ∷ 0 ∷ x ∷ z ∷ [])) (u (1 ∷ 0 ∷ x ∷ z ∷ [])) is (1 ∷ 0 ∷ x ∷ x ∷ [])
+    ∷ (reduceAnd [] ∷ []) is (1 ∷ [])
+    ∷ (reduceOr [] ∷ []) is (0 ∷ [])
+    ∷ (reduceXor [] ∷ []) is (0 ∷ [])
+    ∷ []
