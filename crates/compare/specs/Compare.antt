@@ -78,29 +78,6 @@ places op a b =
 abbrev pub compared : Comparison → Vector → Vector → LogicBit
 compared op a b = decided op (places op a b)
 
--- the same places over two operands that are read by their extents, at width w: what the inner functions scan
-abbrev pub placesOver : ℕ → Extent → Planes → Extent → Planes → List (LogicBit × LogicBit)
-placesOver w a p b q =
-    tabulate w
-    (λ i. (getD (fromPlanes (a .width) (p .value) (p .unknown)) i (a .beyond), getD (fromPlanes (b .width) (q .value) (q .unknown)) i (b .beyond)))
-
--- ---- the places of one word
-
--- a one at each of the 64 places that pass the test
-unfoldable pub marked : (LogicBit → LogicBit → Bool) → Word → Word → ℕ
-marked t a b = pack 64 (λ j. cond (t (bitOf a j) (bitOf b j)) 1 0)
-
-abbrev pub marksOf : Comparison → Word → Word → Marks
-marksOf op a b = record { apart = marked (mismatch op) a b; doubt = marked (unsure op) a b }
-
--- those of word k that lie below the width w
-unfoldable pub cutMarks : ℕ → ℕ → Marks → Marks
-cutMarks w k m = record { apart = bitAnd (m .apart) (2 ^ min 64 (w - k * 64) - 1); doubt = bitAnd (m .doubt) (2 ^ min 64 (w - k * 64) - 1) }
-
--- the first bits of two words, place by place
-abbrev pub wordPlaces : ℕ → Word → Word → List (LogicBit × LogicBit)
-wordPlaces w a b = tabulate w (λ i. (bitOf a i, bitOf b i))
-
 -- ---- the entries
 
 -- `case_eq`, `casez_eq`, `casex_eq`, `wildcard_eq`: 1 to 4 for the left operand, then for the right
@@ -120,3 +97,26 @@ equalOperands (operand.Real x) p (operand.Real y) q = equalReals (operand.Real x
 -- `is_equal`: the left operand is refused first
 abbrev pub isEqual : Operand → Planes → Operand → Planes → Answer LogicBit
 isEqual a p b q = after (checkOperand a p) (after (checkOperand b q) (given (equalOperands a p b q)))
+
+-- ---- what the inner functions give
+
+-- the same places over two operands that are read by their extents, at width w: what the inner functions scan
+abbrev pub placesOver : ℕ → Extent → Planes → Extent → Planes → List (LogicBit × LogicBit)
+placesOver w a p b q =
+    tabulate w
+    (λ i. (getD (fromPlanes (a .width) (p .value) (p .unknown)) i (a .beyond), getD (fromPlanes (b .width) (q .value) (q .unknown)) i (b .beyond)))
+
+-- a one at each of the 64 places of two words that pass the test
+unfoldable pub marked : (LogicBit → LogicBit → Bool) → Word → Word → ℕ
+marked t a b = pack 64 (λ j. cond (t (bitOf a j) (bitOf b j)) 1 0)
+
+abbrev pub marksOf : Comparison → Word → Word → Marks
+marksOf op a b = record { apart = marked (mismatch op) a b; doubt = marked (unsure op) a b }
+
+-- those of word k that lie below the width w
+unfoldable pub cutMarks : ℕ → ℕ → Marks → Marks
+cutMarks w k m = record { apart = bitAnd (m .apart) (2 ^ min 64 (w - k * 64) - 1); doubt = bitAnd (m .doubt) (2 ^ min 64 (w - k * 64) - 1) }
+
+-- the first bits of two words, place by place
+abbrev pub wordPlaces : ℕ → Word → Word → List (LogicBit × LogicBit)
+wordPlaces w a b = tabulate w (λ i. (bitOf a i, bitOf b i))
