@@ -1,7 +1,7 @@
 -- Document 01, "Result vector": and, or, xor and merge of two vectors, not of one (IEEE 1800-2017, 11.4.8 and 11.4.11), and insert.
 use mathlib.Core.Bool.{Bool, true, false, not, _&&_}
 use mathlib.Core.List.{List}
-use Prim.Native.Nat.{ℕ, zero, suc, _+_, max}
+use Prim.Native.Nat.{ℕ, zero, suc, _+_}
 use lib.Dec.{leb}
 use lib.ListN.{length, getD}
 use Rattle.bit.specs.declared.LogicBit.{LogicBit}
@@ -19,7 +19,7 @@ use Rattle.extension.specs.declared.Extent.{Extent}
 use Rattle.extension.specs.declared.Operator.{Operator}
 use Rattle.extension.specs.declared.Operator.the-variants as operator-of
 use Rattle.value.specs.Checks.{Vector, vector, checkVector, checkPair, written}
-use Rattle.extension.specs.Extension.{operandAt}
+use Rattle.extension.specs.Extension.{larger, operandAt}
 use Rattle.lanes.specs.declared.Bitwise.{Bitwise}
 use Rattle.lanes.specs.declared.Bitwise.the-variants.{And, Or, Xor, Merge}
 use Rattle.bitwise.specs.declared.ChangeAnswer.{ChangeAnswer}
@@ -31,9 +31,6 @@ operator And = operator-of.And
 operator Or = operator-of.Or
 operator Xor = operator-of.Xor
 operator Merge = operator-of.Merge
-
-abbrev pub larger : Header → Header → ℕ
-larger a b = max (a .width) (b .width)
 
 -- and, or and xor are unsigned; merge is signed if both are signed and the larger width is at most 64
 abbrev pub resultSigned : Bitwise → Header → Header → Bool

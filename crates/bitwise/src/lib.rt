@@ -1,4 +1,5 @@
 // The operators whose result is a vector: and, or, xor, merge and not into lent planes, and insert in place.
+use extension::larger;
 use lanes::Bitwise;
 use refusal::Refusal;
 use refusal::Verdict;
@@ -9,7 +10,6 @@ use value::check_pair;
 use value::check_vector;
 use words::Word;
 ghost use mathlib.Core.Path.{_≡_};
-ghost use Prim.Native.Nat.{max};
 ghost use Rattle.refusal.specs.Outcome.{outcome};
 ghost use Rattle.words.specs.Planes.{lent};
 ghost use Rattle.value.specs.Checks.{vectorAnswer};
@@ -22,12 +22,6 @@ pub mod inner;
 pub enum ChangeAnswer {
     Changed(bool),
     Refused(Refusal),
-}
-
-fn larger(a: u32, b: u32) -> u32
-    ensures { λ r. ⌜ r ≡ max a b ⌝ }
-{
-    if a < b { b } else { a }
 }
 
 // The header of the operator's result.

@@ -2,7 +2,7 @@
 -- which stretches a fill is told by the two tables, and nowhere else.
 use mathlib.Core.Bool.{Bool, true, false, not, _&&_, cond}
 use mathlib.Core.List.{List}
-use Prim.Native.Nat.{ℕ, _-_}
+use Prim.Native.Nat.{ℕ, _-_, max}
 use lib.ListN.{length, getD}
 use Rattle.bit.specs.declared.LogicBit.{LogicBit}
 use Rattle.bit.specs.declared.LogicBit.the-variants.{Zero}
@@ -36,6 +36,10 @@ extendsByTop CaseEqual = true
 extendsByTop CasezEqual = true
 extendsByTop CasexEqual = true
 extendsByTop WildcardEqual = true
+
+-- both operands are read at the larger width
+abbrev pub larger : Header → Header → ℕ
+larger a b = max (a .width) (b .width)
 
 -- the top bit; 0 of an empty vector
 abbrev pub top : List LogicBit → LogicBit

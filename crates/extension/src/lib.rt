@@ -2,6 +2,7 @@
 // told by two tables, and nowhere else.
 use bit::LogicBit;
 ghost use mathlib.Core.Path.{_≡_};
+ghost use Prim.Native.Nat.{max};
 ghost use Rattle.extension.specs.Extension as table;
 
 pub mod inner;
@@ -23,6 +24,13 @@ pub enum Operator {
 pub struct Extent {
     pub width: u32,
     pub beyond: LogicBit,
+}
+
+// The larger of two widths, at which both operands are read.
+pub fn larger(a: u32, b: u32) -> u32
+    ensures { λ r. ⌜ r ≡ max a b ⌝ }
+{
+    if a < b { b } else { a }
 }
 
 // Whether the operator first stretches a fill: all its bits become its bit 0, and it is then unsigned.

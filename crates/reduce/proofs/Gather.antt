@@ -2,7 +2,7 @@
 --     gather-cong    by what stands at each place
 --     gather-add     the places below m, then the n from there on
 --     gather-word    the places below word k, then the 64 of word k
---     of-list        a vector, place by place; a bit that adds nothing stands beyond its end
+--     of-list        a list, place by place; a member that adds nothing stands beyond its end
 --     of-digits      a number, digit by digit
 use mathlib.Core.Path.{_≡_, refl, sym, ap, ap₂, _∙_}
 use mathlib.Core.List.{List, [], _∷_}
@@ -13,7 +13,6 @@ use native.Mathlib.Omega.{arith}
 use lib.Arith.{lt-one}
 use lib.Pow.{shr-lt}
 use lib.ListN.{length, getD}
-use Rattle.bit.specs.declared.LogicBit.{LogicBit}
 use Rattle.words.specs.Vector.{bitAt}
 use Rattle.words.proofs.Digits.{bit-zero, bit-suc}
 
@@ -42,8 +41,8 @@ module _ {A : Type 0} (op : A → A → A) (e : A) where
     gather-none a h zero = refl
     gather-none a h (suc n) = ap₂ op h (gather-none a h n) ∙ left e
 
-    module _ (L : List LogicBit → A) (h : LogicBit → A) (nil : L [] ≡ e) (cons : (b : LogicBit) (bs : List LogicBit) → L (b ∷ bs) ≡ op (h b) (L bs)) where
-      pub of-list : (d : LogicBit) → h d ≡ e → (bs : List LogicBit) (n : ℕ) → length bs ≤ n → L bs ≡ gather n (λ i. h (getD bs i d))
+    module _ {B : Type 0} (L : List B → A) (h : B → A) (nil : L [] ≡ e) (cons : (b : B) (bs : List B) → L (b ∷ bs) ≡ op (h b) (L bs)) where
+      pub of-list : (d : B) → h d ≡ e → (bs : List B) (n : ℕ) → length bs ≤ n → L bs ≡ gather n (λ i. h (getD bs i d))
       unfolding gather
       of-list d none [] n l = nil ∙ sym (gather-none (h d) none n)
       of-list d none (b ∷ bs) zero l = absurd (not-suc-le-zero l)

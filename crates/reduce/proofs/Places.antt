@@ -1,5 +1,6 @@
 -- A vector by its places, and by the words of its planes.
---     any-some, any-found     some bit passes a test where some place does; a bit that fails the test stands beyond the width
+--     any-some, any-found     some member passes a test where some place does; one that fails the test stands beyond the end
+--     any-tabulate            the same for a list that is told place by place
 --     nonzero, or-nonzero     a word is not 0 where some digit is 1; two words, one over the other
 --     inside, outside         a place below the width is two digits of word k; beyond the width the vector is continued
 --     unknown-word            word k of the unknown plane tells whether a bit of word k is unknown
@@ -15,7 +16,7 @@ use lib.ListN.{length, getD}
 use lib.Bits.{bitOr, or-add-and, and-le-l, and-le-r}
 use Rattle.bit.specs.declared.LogicBit.{LogicBit}
 use Rattle.bit.specs.declared.LogicBit.the-variants.{Zero}
-use Rattle.words.specs.Vector.{at, bitAt}
+use Rattle.words.specs.Vector.{at, bitAt, tabulate}
 use Rattle.words.specs.Planes.{stored, planeBit, fromPlanes, Plane}
 use Rattle.words.proofs.Digits.{bit-lt, lt-or-ge}
 use Rattle.words.proofs.Planes.{getD-tabulate, getD-tabulate-out, plane-bit}
@@ -29,7 +30,7 @@ some = gather _||_ false
 pub some-word : (k : ℕ) (f : ℕ → Bool) → some ((k + 1) * 64) f ≡ (some (k * 64) f || some 64 (λ j. f (k * 64 + j)))
 some-word = gather-word _||_ false (λ b. refl) or-assoc
 
-module _ (p : LogicBit → Bool) (e : LogicBit) (fails : p e ≡ false) (bs : List LogicBit) where
+module _ {B : Type 0} (p : B → Bool) (e : B) (fails : p e ≡ false) (bs : List B) where
   pub any-some : (n : ℕ) → length bs ≤ n → any p bs ≡ some n (λ i. p (getD bs i e))
   any-some = of-list _||_ false (λ b. refl) (any p) p refl (λ b bs. refl) e fails bs
 
@@ -38,6 +39,12 @@ module _ (p : LogicBit → Bool) (e : LogicBit) (fails : p e ≡ false) (bs : Li
       any-some (n + length bs) (omega arith)
       ∙ gather-add _||_ false (λ b. refl) or-assoc n (length bs) (λ i. p (getD bs i e))
       ∙ ap (λ (z : Bool). z || some (length bs) (λ i. p (getD bs (n + i) e))) h
+
+-- some place of a tabulated list
+pub any-tabulate : {B : Type 0} (p : B → Bool) (n : ℕ) (f : ℕ → B) → any p (tabulate n f) ≡ some n (λ i. p (f i))
+unfolding tabulate gather
+any-tabulate p zero f = refl
+any-tabulate p (suc n) f = ap (λ (z : Bool). p (f 0) || z) (any-tabulate p n (λ i. f (suc i)))
 
 -- ---- words
 

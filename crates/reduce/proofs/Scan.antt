@@ -1,127 +1,44 @@
--- A scan for a known bit, word by word. Beyond its width the vector is continued by the other known bit.
---     Scanned     the bit looked for does not stand below word k, and the word `seen` is 0 where no bit there is unknown
---     whole, cut  a word that is not 0 where the bit looked for stands in word k: one below the width, one cut off at the width
---     start, more, found, done     no word yet; one word more; the bit is found; all words are scanned
+-- A scan for a member of a list that passes a test, 64 places at a time. Beyond its end the list is continued by members that fail the tests.
+--     Scanned     none passes the test p below word k, and the word `seen` is 0 where none passes q there
+--     start, more, found         no word yet; one word more; one that passes p is found
+--     none-left, open-told       what is known once all words are scanned
 use mathlib.Core.Path.{_≡_, refl, sym, ap, ap₂, _∙_}
-use mathlib.Core.Logic.{⊎-elim}
-use mathlib.Core.Bool.{Bool, true, false, not, _||_, cond}
+use mathlib.Core.Bool.{Bool, true, false, not, _||_}
 use mathlib.Core.List.{List}
-use Prim.Native.Nat.{ℕ, zero, suc, _+_, _-_, _*_, _^_, _≤_, _<_, min}
-use native.Mathlib.Nat.{lt-of-le-of-lt}
-use native.Mathlib.Omega.{arith}
+use Prim.Native.Nat.{ℕ, _+_, _*_, _≤_}
 use borrow.Author.Tests.{ne-eqb}
 use lib.Dec.{eqb}
 use lib.ListN.{length, getD}
-use lib.Pow.{ones-lt, ones-sub-lt, pow-pos}
-use lib.Bits.{bitAnd, bitOr, bitXor, differ, and-lt, xor-lt, and-mask, and-le-l}
-use Rattle.bit.specs.declared.LogicBit.{LogicBit}
-use Rattle.bit.specs.declared.LogicBit.the-variants.{Zero}
-use Rattle.bit.specs.Rules.{same}
-use Rattle.words.specs.Vector.{bitAt}
-use Rattle.words.specs.Planes.{stored, fromPlanes}
-use Rattle.words.proofs.Digits.{bit-and, bit-xor, bit-not, bit-ones, bit-of-zero, bit-lt, bit-mod, bit-mod-above, lt-or-ge}
-use Rattle.words.proofs.Planes.{length-tabulate}
-use Rattle.reduce.specs.declared.Truth.the-variants.{False, True, Unknown}
-use Rattle.reduce.specs.Reduce.{any, unknown, knownBit, holds}
-use Rattle.reduce.proofs.Gather.{gather, gather-cong}
-use Rattle.reduce.proofs.Places.{some, some-word, any-some, any-found, nonzero, or-nonzero, WordPlanes, unknownAt, inside, outside, unknown-word}
+use lib.Bits.{bitOr}
+use Rattle.reduce.specs.Reduce.{any}
+use Rattle.reduce.proofs.Gather.{gather}
+use Rattle.reduce.proofs.Places.{some, some-word, any-some, any-found, or-nonzero}
 
--- all ones where the bit looked for is 0
-abbrev pub flipOf : Bool → ℕ
-flipOf one = cond one 0 (2 ^ 64 - 1)
-
-flip-digit : (one : Bool) (j : ℕ) → j < 64 → bitAt (flipOf one) j ≡ cond one 0 1
-flip-digit true j l = bit-of-zero j
-flip-digit false j l = bit-ones 64 j l
-
-flip-lt : (one : Bool) → flipOf one < 2 ^ 64
-flip-lt true = pow-pos 64
-flip-lt false = ones-lt 64
-
--- the digit of (v ^ flip) & !u
-same-stored : (one : Bool) (v u : ℕ) → v < 2 → u < 2 → eqb (min (differ v (cond one 0 1)) (1 - u)) 1 ≡ same (knownBit one) (stored v u)
-same-stored true zero zero l m = refl
-same-stored true zero (suc zero) l m = refl
-same-stored true (suc zero) zero l m = refl
-same-stored true (suc zero) (suc zero) l m = refl
-same-stored false zero zero l m = refl
-same-stored false zero (suc zero) l m = refl
-same-stored false (suc zero) zero l m = refl
-same-stored false (suc zero) (suc zero) l m = refl
-same-stored one (suc (suc v)) u l m = absurd (omega arith)
-same-stored one zero (suc (suc u)) l m = absurd (omega arith)
-same-stored one (suc zero) (suc (suc u)) l m = absurd (omega arith)
-
-differs : (one : Bool) → same (knownBit one) (knownBit (not one)) ≡ false
-differs true = refl
-differs false = refl
-
-module _ (w : ℕ) (v u : List ℕ) (one : Bool) where
-  abbrev bits : List LogicBit
-  bits = fromPlanes w v u
-
-  -- the bit looked for stands at place i
-  abbrev hit : ℕ → Bool
-  hit i = same (knownBit one) (getD bits i (knownBit (not one)))
-
+module _ {B : Type 0} (p q : B → Bool) (e d : B) (bs : List B) where
   pub record Scanned (seen k : ℕ) : Type 0 where
-    pub absent : some (k * 64) hit ≡ false
-    pub told : not (eqb seen 0) ≡ some (k * 64) (unknownAt bits)
+    pub absent : some (k * 64) (λ i. p (getD bs i e)) ≡ false
+    pub told : not (eqb seen 0) ≡ some (k * 64) (λ i. q (getD bs i d))
 
   pub start : Scanned 0 0
   unfolding gather
   start = record { absent = refl; told = refl }
 
-  pub done : (seen k : ℕ) → Scanned seen k → w ≤ k * 64 → (z : Bool) → eqb seen 0 ≡ z → cond (not z) Unknown False ≡ holds (knownBit one) bits
-  done seen k s l z e =
-      let b : length bits ≤ k * 64 = rw length-tabulate l in
-      sym (ap₂ (λ (x y : Bool). cond x True (cond y Unknown False))
-      (any-some (same (knownBit one)) (knownBit (not one)) (differs one) bits (k * 64) b ∙ s .absent)
-      (any-some unknown Zero refl bits (k * 64) b ∙ sym (s .told) ∙ ap not e))
+  module _ (fails : p e ≡ false) (seen k : ℕ) (s : Scanned seen k) where
+    pub none-left : length bs ≤ k * 64 → any p bs ≡ false
+    none-left l = any-some p e fails bs (k * 64) l ∙ s .absent
 
-  module _ (p : WordPlanes w v u) where
-    -- by a word x that is not 0 where the bit looked for stands in word k
-    module _ (seen k x : ℕ) (s : Scanned seen k) (h : not (eqb x 0) ≡ some 64 (λ j. hit (k * 64 + j))) where
-      pub more : x ≡ 0 → Scanned (bitOr seen (getD u k 0)) (k + 1)
-      more e = record {
-        absent = some-word k hit ∙ ap₂ _||_ (s .absent) (sym h ∙ ap (λ (y : ℕ). not (eqb y 0)) e);
-        told = or-nonzero seen (getD u k 0) ∙ ap₂ _||_ (s .told) (unknown-word w v u p k) ∙ sym (some-word k (unknownAt bits));
+    pub open-told : q d ≡ false → length bs ≤ k * 64 → any q bs ≡ not (eqb seen 0)
+    open-told closed l = any-some q d closed bs (k * 64) l ∙ sym (s .told)
+
+    -- by a word x that is not 0 where one passes p in word k
+    module _ (x : ℕ) (h : not (eqb x 0) ≡ some 64 (λ j. p (getD bs (k * 64 + j) e))) where
+      pub more : x ≡ 0 → (y : ℕ) → not (eqb y 0) ≡ some 64 (λ j. q (getD bs (k * 64 + j) d)) → Scanned (bitOr seen y) (k + 1)
+      more z y g = record {
+        absent = some-word k (λ i. p (getD bs i e)) ∙ ap₂ _||_ (s .absent) (sym h ∙ ap (λ (y : ℕ). not (eqb y 0)) z);
+        told = or-nonzero seen y ∙ ap₂ _||_ (s .told) g ∙ sym (some-word k (λ i. q (getD bs i d)));
       }
 
-      pub found : (x ≡ 0 → ⊥) → True ≡ holds (knownBit one) bits
-      found e =
-          sym (ap (λ (z : Bool). cond z True (cond (any unknown bits) Unknown False))
-          (any-found (same (knownBit one)) (knownBit (not one)) (differs one) bits ((k + 1) * 64)
-          (some-word k hit ∙ ap₂ _||_ (s .absent) (sym h ∙ ap not (ne-eqb x 0 e)))))
-
-    module _ (flip : ℕ) (f : flip ≡ flipOf one) (k : ℕ) where
-      -- a one at each place of word k where the bit looked for stands
-      abbrev marks : ℕ
-      marks = bitAnd (bitXor (getD v k 0) flip) ((2 ^ 64 - 1) - getD u k 0)
-
-      marks-lt : marks < 2 ^ 64
-      marks-lt = and-lt 64 _ _ (xor-lt 64 (getD v k 0) flip (p .value-words k) (rw f (flip-lt one))) (ones-sub-lt 64 (getD u k 0))
-
-      mark : (j : ℕ) → j < 64 → k * 64 + j < w → eqb (bitAt marks j) 1 ≡ hit (k * 64 + j)
-      mark j l m =
-          ap (λ (x : ℕ). eqb x 1)
-          (bit-and (bitXor (getD v k 0) flip) ((2 ^ 64 - 1) - getD u k 0) j
-          ∙ ap₂ min (bit-xor (getD v k 0) flip j ∙ ap (differ (bitAt (getD v k 0) j)) (ap (λ (x : ℕ). bitAt x j) f ∙ flip-digit one j l)) (bit-not 64 (getD u k 0) j (p .unknown-words k) l))
-          ∙ same-stored one (bitAt (getD v k 0) j) (bitAt (getD u k 0) j) (bit-lt (getD v k 0) j) (bit-lt (getD u k 0) j)
-          ∙ ap (same (knownBit one)) (sym (inside w v u (knownBit (not one)) k j l m))
-
-      pub whole : k * 64 + 64 ≤ w → not (eqb marks 0) ≡ some 64 (λ j. hit (k * 64 + j))
-      whole h =
-          nonzero 64 marks marks-lt
-          ∙ gather-cong _||_ false 64 (λ j. eqb (bitAt marks j) 1) (λ j. hit (k * 64 + j)) (λ j l. mark j l (omega arith))
-
-      pub cut : (n m : ℕ) → n ≡ min 64 (w - k * 64) → m ≡ 2 ^ n - 1 → not (eqb (bitAnd marks m) 0) ≡ some 64 (λ j. hit (k * 64 + j))
-      cut n m e o =
-          nonzero 64 (bitAnd marks m) (lt-of-le-of-lt (and-le-l marks m) marks-lt)
-          ∙ gather-cong _||_ false 64 (λ j. eqb (bitAt (bitAnd marks m) j) 1) (λ j. hit (k * 64 + j))
-          (λ j l. ap (λ (x : ℕ). eqb (bitAt x j) 1) (ap (bitAnd marks) o ∙ and-mask marks n)
-          ∙ ⊎-elim
-          (λ b. ap (λ (x : ℕ). eqb x 1) (bit-mod marks n j b) ∙ mark j l (omega arith))
-          (λ b. ap (λ (x : ℕ). eqb x 1) (bit-mod-above marks n j b)
-          ∙ sym (ap (same (knownBit one)) (outside w v u (knownBit (not one)) (k * 64 + j) (omega arith)) ∙ differs one))
-          (lt-or-ge j n))
+      pub found : (x ≡ 0 → ⊥) → any p bs ≡ true
+      found z =
+          any-found p e fails bs ((k + 1) * 64)
+          (some-word k (λ i. p (getD bs i e)) ∙ ap₂ _||_ (s .absent) (sym h ∙ ap not (ne-eqb x 0 z)))

@@ -24,10 +24,11 @@ use Rattle.reduce.specs.declared.TruthAnswer.the-variants as truth-answe
 
 -- ---- vectors
 
--- some bit passes the test
-abbrev pub any : (LogicBit → Bool) → List LogicBit → Bool
-any p [] = false
-any p (b ∷ bs) = p b || any p bs
+module _ {A : Type 0} where
+  -- some member of a list passes the test
+  abbrev pub any : (A → Bool) → List A → Bool
+  any p [] = false
+  any p (b ∷ bs) = p b || any p bs
 
 -- how many bits pass the test
 abbrev pub count : (LogicBit → Bool) → List LogicBit → ℕ

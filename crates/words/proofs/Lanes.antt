@@ -4,18 +4,18 @@ use mathlib.Core.Path.{_≡_, refl, sym, ap, ap₂, _∙_}
 use mathlib.Core.Bool.{Bool}
 use Prim.Native.Nat.{ℕ, zero, suc, _+_, _-_, _*_, _^_, _<_, min, max}
 use lib.Dec.{T, eqb, eqb→eq}
-use lib.Pow.{ones-sub-lt}
+use lib.Pow.{pow-pos, ones-sub-lt}
 use lib.Bits.{bitAnd, bitOr, bitXor, differ, and-lt, or-lt, xor-lt}
 use Rattle.bit.specs.declared.LogicBit.{LogicBit}
 use Rattle.bit.proofs.Table.{all, each}
 use Rattle.words.specs.Vector.{bitAt, pack}
 use Rattle.words.specs.Planes.{valueDigit, unknownDigit, stored}
-use Rattle.words.proofs.Digits.{bit-and, bit-or, bit-xor, bit-not, bit-lt, pack-ext}
+use Rattle.words.proofs.Digits.{bit-and, bit-or, bit-xor, bit-not, bit-lt, bit-of-zero, pack-ext}
 use Rattle.words.proofs.Planes.{value-digit-stored, unknown-digit-stored}
 
--- the four words of two operands, and the operations on words
+-- the four words of two operands, the word 0, and the operations on words
 pub data Lane : Type 0 where
-  av au bv bu : Lane
+  av au bv bu none : Lane
   neg : Lane → Lane
   and or xor : Lane → Lane → Lane
 
@@ -29,6 +29,7 @@ word av p q r s = p
 word au p q r s = q
 word bv p q r s = r
 word bu p q r s = s
+word none p q r s = 0
 word (neg e) p q r s = (2 ^ 64 - 1) - word e p q r s
 word (and e f) p q r s = bitAnd (word e p q r s) (word f p q r s)
 word (or e f) p q r s = bitOr (word e p q r s) (word f p q r s)
@@ -40,6 +41,7 @@ digit av p q r s = p
 digit au p q r s = q
 digit bv p q r s = r
 digit bu p q r s = s
+digit none p q r s = 0
 digit (neg e) p q r s = 1 - digit e p q r s
 digit (and e f) p q r s = min (digit e p q r s) (digit f p q r s)
 digit (or e f) p q r s = max (digit e p q r s) (digit f p q r s)
@@ -55,6 +57,7 @@ module _ (p q r s : ℕ) (hp : p < 2 ^ 64) (hq : q < 2 ^ 64) (hr : r < 2 ^ 64) (
   word-lt au = hq
   word-lt bv = hr
   word-lt bu = hs
+  word-lt none = pow-pos 64
   word-lt (neg e) = ones-sub-lt 64 (word e p q r s)
   word-lt (and e f) = and-lt 64 (word e p q r s) (word f p q r s) (word-lt e) (word-lt f)
   word-lt (or e f) = or-lt 64 (word e p q r s) (word f p q r s) (word-lt e) (word-lt f)
@@ -65,6 +68,7 @@ module _ (p q r s : ℕ) (hp : p < 2 ^ 64) (hq : q < 2 ^ 64) (hr : r < 2 ^ 64) (
   word-bit au j l = refl
   word-bit bv j l = refl
   word-bit bu j l = refl
+  word-bit none j l = bit-of-zero j
   word-bit (neg e) j l = bit-not 64 (word e p q r s) j (word-lt e) l ∙ ap (λ (x : ℕ). 1 - x) (word-bit e j l)
   word-bit (and e f) j l = bit-and (word e p q r s) (word f p q r s) j ∙ ap₂ min (word-bit e j l) (word-bit f j l)
   word-bit (or e f) j l = bit-or (word e p q r s) (word f p q r s) j ∙ ap₂ max (word-bit e j l) (word-bit f j l)

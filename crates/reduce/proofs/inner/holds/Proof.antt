@@ -9,7 +9,8 @@ use borrow.Author.Tests.{eq-eqb, ne-eqb}
 use lib.Bits.{bitOr}
 use lib.ListN.{length, getD}
 use Rattle.reduce.proofs.Places.{WordPlanes}
-use Rattle.reduce.proofs.Scan.{Scanned, start, whole, cut, more, found, done, flipOf}
+use Rattle.reduce.proofs.Scan.{start}
+use Rattle.reduce.proofs.Known.{Scanned, whole, cut, more, found, done, flipOf}
 use Rattle.reduce.proofs.inner.holds.Statement.{statement}
 use Rattle.reduce.proofs.inner.holds.Tie as tie
 
@@ -52,7 +53,7 @@ sub-last : tie.Need-sub-last Inv-loop μ-loop
 sub-last c = search needs
 
 loop-holds : tie.Need-loop-holds Inv-loop μ-loop
-loop-holds c = (omega arith, start _ _ _ _)
+loop-holds c = (omega arith, start _ _ _ _ _)
 
 mul-u : tie.Need-mul-u Inv-loop μ-loop
 mul-u c = search needs
@@ -112,10 +113,14 @@ returns-2 c =
     found _ _ _ one (planes g) _ _ _ (top t) (cut _ _ _ one (planes g) _ (flip-is g) _ _ _ (t .before .kept .ensures) (t .ones .ensures)) (c .if3 .taken)
 
 returns-3 : tie.Need-returns-3 Inv-loop μ-loop
-returns-3 c = done _ _ _ _ _ _ (whole-plane (c .before)) (omega arith) false (ne-eqb _ _ (c .if4 .taken))
+returns-3 c =
+    let a = c .before .before .before .before .before .before .before .before .before .before .before .before .args in
+    done (a .width) (a .value .now) (a .unknown .now) (a .one) _ _ (whole-plane (c .before)) (omega arith) false (ne-eqb _ _ (c .if4 .taken))
 
 returns-4 : tie.Need-returns-4 Inv-loop μ-loop
-returns-4 c = done _ _ _ _ _ _ (whole-plane (c .before)) (omega arith) true (eq-eqb _ _ (c .if4 .left))
+returns-4 c =
+    let a = c .before .before .before .before .before .before .before .before .before .before .before .before .args in
+    done (a .width) (a .value .now) (a .unknown .now) (a .one) _ _ (whole-plane (c .before)) (omega arith) true (eq-eqb _ _ (c .if4 .left))
 
 pub holds-spec : {M : Type 1} → statement M
 holds-spec =

@@ -1,0 +1,120 @@
+-- `compare::inner::scan`: no place below word k mismatches, and `doubt` is not 0 where one of them is unsure; the bits of a word that are
+-- left are 0 where the word is 0.
+use mathlib.Core.Path.{_≡_, refl, ap, _∙_}
+use mathlib.Core.Bool.{Bool, false}
+use mathlib.Core.Logic.{⊎-elim}
+use Prim.Native.Nat.{ℕ, _-_, _*_, _≤_}
+use native.Mathlib.Omega.{arith}
+use lib.ListN.{getD}
+use borrow.Author.Needs.{needs}
+use Rattle.bit.specs.declared.LogicBit.{LogicBit}
+use Rattle.words.specs.Vector.{tabulate}
+use Rattle.words.specs.Planes.{fromPlanes, lent}
+use Rattle.words.proofs.Planes.{length-tabulate}
+use Rattle.reduce.proofs.Scan.{start}
+use Rattle.extension.proofs.Extension.{extentOver}
+use Rattle.compare.specs.Compare.{placesOver}
+use Rattle.compare.proofs.Places.{Compared, answered, alike}
+use Rattle.compare.proofs.Words.{next, left}
+use Rattle.compare.proofs.inner.scan.Statement.{statement}
+use Rattle.compare.proofs.inner.scan.Tie as tie
+
+abbrev Inv-loop : tie.InvT-loop
+Inv-loop op av au bv bu width aw ab bw bb count is-apart₀ doubt k m bits₀ is-apart bits =
+    (_≡_ {A = Bool} is-apart false) × ((_≡_ {A = ℕ} bits 0 → _≡_ {A = ℕ} bits₀ 0) × (_≡_ {A = ℕ} bits₀ 0 → _≡_ {A = ℕ} bits 0))
+
+abbrev μ-loop : tie.MeasureT-loop
+μ-loop op av au bv bu width aw ab bw bb count is-apart₀ doubt k m bits₀ is-apart bits = bits
+
+abbrev Inv-words : tie.InvT-words
+Inv-words op av au bv bu width aw ab bw bb count is-apart₀ doubt₀ k₀ is-apart doubt k =
+    (_≡_ {A = Bool} is-apart false) × Compared op (placesOver width (extentOver aw ab) (lent av au) (extentOver bw bb) (lent bv bu)) doubt k
+
+abbrev μ-words : tie.MeasureT-words
+μ-words op av au bv bu width aw ab bw bb count is-apart₀ doubt₀ k₀ is-apart doubt k = count - k
+
+word-count-requires : tie.Need-word-count-requires Inv-loop μ-loop Inv-words μ-words
+word-count-requires c κs = search needs
+
+words-holds : tie.Need-words-holds Inv-loop μ-loop Inv-words μ-words
+words-holds c = (refl, start _ _ _ _ _)
+
+operand-word-requires : tie.Need-operand-word-requires Inv-loop μ-loop Inv-words μ-words
+operand-word-requires c κs = search needs
+
+operand-word-requires-2 : tie.Need-operand-word-requires-2 Inv-loop μ-loop Inv-words μ-words
+operand-word-requires-2 c κs = search needs
+
+word-marks-requires : tie.Need-word-marks-requires Inv-loop μ-loop Inv-words μ-words
+word-marks-requires c κs = search needs
+
+loop-holds : tie.Need-loop-holds Inv-loop μ-loop Inv-words μ-words
+loop-holds c = (c .before .before .before .before .words .inv .0, (λ z. z, λ z. z))
+
+loop-less : tie.Need-loop-less Inv-loop μ-loop Inv-words μ-words
+loop-less c = search needs
+
+loop-again : tie.Need-loop-again Inv-loop μ-loop Inv-words μ-words
+loop-again c =
+    let l = c .before .before .loop in
+    (l .inv .0, (λ z. l .inv .1 .0 (omega arith), λ z. let q = l .inv .1 .1 z in omega arith))
+
+add-k : tie.Need-add-k Inv-loop μ-loop Inv-words μ-words
+add-k c = search needs
+
+words-less : tie.Need-words-less Inv-loop μ-loop Inv-words μ-words
+words-less c = search needs
+
+words-again : tie.Need-words-again Inv-loop μ-loop Inv-words μ-words
+words-again c =
+    let b = c .before .before in
+    let m = b .before in
+    let y = m .before in
+    let x = y .before in
+    let l = x .before .before in
+    let a = l .before .before .before .before .before .before .args in
+    let f : ℕ → LogicBit = λ i. getD (fromPlanes (a .a .width) (a .av .now) (a .au .now)) i (a .a .beyond) in
+    let g : ℕ → LogicBit = λ i. getD (fromPlanes (a .b .width) (a .bv .now) (a .bu .now)) i (a .b .beyond) in
+    (b .loop .inv .0, next (a .op) f g (a .width) (l .words .k) (x .operand-word .result) (y .operand-word2 .result) (x .operand-word .ensures) (y .operand-word2 .ensures) _ (m .word-marks .ensures) (l .words .doubt) (l .words .inv .1) (b .loop .inv .1 .0 (c .before .loop-test .left)))
+
+answer-requires : tie.Need-answer-requires Inv-loop μ-loop Inv-words μ-words
+answer-requires c κs = search needs
+
+returns : tie.Need-returns Inv-loop μ-loop Inv-words μ-words
+returns c =
+    let e = c .before in
+    let l = e .before in
+    let n = l .before in
+    let a = n .before .before .before .before .before .args in
+    let f : ℕ → LogicBit = λ i. getD (fromPlanes (a .a .width) (a .av .now) (a .au .now)) i (a .a .beyond) in
+    let g : ℕ → LogicBit = λ i. getD (fromPlanes (a .b .width) (a .bv .now) (a .bu .now)) i (a .b .beyond) in
+    c .answer .ensures
+    ∙ ⊎-elim
+    (λ t. let all : a .width ≤ l .words .k * 64 = omega (arith, n .word-count .ensures, t .0 .left) in
+    ap (λ (z : Bool). answered z (l .words .doubt)) (t .1 ∙ l .words .inv .0)
+    ∙ alike (a .op) (tabulate (a .width) (λ i. (f i, g i))) (l .words .doubt) (l .words .k) (l .words .inv .1) (rw length-tabulate all))
+    (λ t. ap (λ (z : Bool). answered z (l .words .doubt)) (t .7)
+    ∙ left (a .op) f g (a .width) (l .words .k) (t .1 .result) (t .2 .result) (t .1 .ensures) (t .2 .ensures) _ (t .3 .ensures) (l .words .doubt) (l .words .inv .1) (λ z. t .5 .taken (t .4 .inv .1 .1 z)))
+    (e .words-test .came)
+
+pub scan-spec : {M : Type 1} → statement M
+scan-spec =
+    tie.close
+    (tie.spec
+    Inv-loop
+    μ-loop
+    Inv-words
+    μ-words
+    word-count-requires
+    words-holds
+    operand-word-requires
+    operand-word-requires-2
+    word-marks-requires
+    loop-holds
+    loop-less
+    loop-again
+    add-k
+    words-less
+    words-again
+    answer-requires
+    returns)

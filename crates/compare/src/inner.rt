@@ -1,0 +1,208 @@
+// The work behind the entries: one scan of words for all comparisons. These ask their caller for operands that were checked.
+use crate::Comparison;
+use bit::LogicBit;
+use extension::Extent;
+use extension::Operator;
+use value::Header;
+use value::Operand;
+use words::Word;
+use words::inner::kept;
+use words::inner::ones;
+use words::inner::operand_word;
+ghost use mathlib.Core.Path.{_≡_};
+ghost use mathlib.Core.Bool.{cond};
+ghost use Prim.Native.Nat.{_≤_};
+ghost use lib.Dec.{eqb};
+ghost use lib.ListN.{length};
+ghost use Rattle.bit.specs.declared.LogicBit.the-variants.{Zero, One, X};
+ghost use Rattle.words.specs.Planes.{wordCount, lent, Plane};
+ghost use Rattle.value.specs.Checks.{vector};
+ghost use Rattle.real.specs.Real.{Whole};
+ghost use Rattle.compare.specs.Compare as compare;
+ghost use Rattle.compare.specs.Compare.{decided, compared, placesOver, wordPlaces, marksOf, cutMarks, equalReals, equalOperands};
+
+// The 64 places of a word of each operand: a one where they mismatch, and a one where an unknown bit leaves the answer in doubt.
+struct Marks {
+    apart: u64,
+    doubt: u64,
+}
+
+// The row of the tables by which the operands are read.
+fn operator(op: Comparison) -> Operator
+    ensures { λ r. ⌜ r ≡ compare.operator op ⌝ }
+{
+    match op {
+        Comparison::Equal => Operator::Equal,
+        Comparison::CaseEqual => Operator::CaseEqual,
+        Comparison::CasezEqual => Operator::CasezEqual,
+        Comparison::CasexEqual => Operator::CasexEqual,
+        Comparison::WildcardEqual => Operator::WildcardEqual,
+    }
+}
+
+// The places of one word of each operand.
+fn lane_marks(op: Comparison, a: Word, b: Word) -> Marks
+    ensures { λ r. ⌜ r ≡ marksOf op a b ⌝ }
+{
+    let av = a.value;
+    let au = a.unknown;
+    let bv = b.value;
+    let bu = b.unknown;
+    let codes = (av ^ bv) | (au ^ bu);
+    let unknown = au | bu;
+    let z = (av & au) | (bv & bu);
+    match op {
+        Comparison::Equal => Marks {
+            apart: (av ^ bv) & !unknown,
+            doubt: unknown,
+        },
+        Comparison::CaseEqual => Marks {
+            apart: codes,
+            doubt: 0,
+        },
+        Comparison::CasezEqual => Marks {
+            apart: codes & !z,
+            doubt: 0,
+        },
+        Comparison::CasexEqual => Marks {
+            apart: codes & !unknown,
+            doubt: 0,
+        },
+        Comparison::WildcardEqual => Marks {
+            apart: codes & !bu & !au,
+            doubt: au & !bu,
+        },
+    }
+}
+
+// The places of word k that lie below the width.
+fn word_marks(op: Comparison, a: Word, b: Word, width: u32, k: usize) -> Marks
+    ensures { λ r. ⌜ r ≡ cutMarks width k (marksOf op a b) ⌝ }
+{
+    let r = lane_marks(op, a, b);
+    let n = kept(width, k);
+    let m = ones(n);
+    Marks {
+        apart: r.apart & m,
+        doubt: r.doubt & m,
+    }
+}
+
+// 0 on a mismatch, else x where a place is in doubt, else 1.
+fn answer(is_apart: bool, doubt: u64) -> LogicBit
+    ensures { λ r. ⌜ r ≡ cond «is_apart» Zero (cond (eqb doubt 0) One X) ⌝ }
+{
+    if is_apart {
+        return LogicBit::Zero;
+    }
+    if doubt == 0 {
+        return LogicBit::One;
+    }
+    LogicBit::X
+}
+
+// Compares two operands of at most 64 bits, extended to the width already, each in one word.
+pub fn compare_words(op: Comparison, a: Word, b: Word, width: u32) -> LogicBit
+    requires { ⌜ width ≤ 64 ⌝ }
+    ensures { λ r. ⌜ r ≡ decided op (wordPlaces width a b) ⌝ }
+{
+    let m = word_marks(op, a, b, width, 0);
+    answer(m.apart != 0, m.doubt)
+}
+
+// Scans the words of two operands of the width, and leaves at the first mismatch.
+fn scan(
+    op: Comparison,
+    a: Extent,
+    av: &[u64],
+    au: &[u64],
+    b: Extent,
+    bv: &[u64],
+    bu: &[u64],
+    width: u32,
+) -> LogicBit
+    requires { ⌜ (wordCount (a .width) ≤ length (now av)) × (wordCount (a .width) ≤ length (now au)) ⌝ }
+    requires { ⌜ (wordCount (b .width) ≤ length (now bv)) × (wordCount (b .width) ≤ length (now bu)) ⌝ }
+    ensures { λ r. ⌜ r ≡ decided op (placesOver width a (lent (now (av .entry)) (now (au .entry))) b (lent (now (bv .entry)) (now (bu .entry)))) ⌝ }
+{
+    let aw = a.width;
+    let ab = a.beyond;
+    let bw = b.width;
+    let bb = b.beyond;
+    let count = words::word_count(width);
+    let mut is_apart = false;
+    let mut doubt = 0;
+    let mut k = 0;
+    'words: while k < count {
+        let x = operand_word(av, au, aw, k, ab);
+        let y = operand_word(bv, bu, bw, k, bb);
+        let m = word_marks(op, x, y, width, k);
+        let mut bits = m.apart;
+        while bits != 0 {
+            if bits % 2 == 1 {
+                is_apart = true;
+                break 'words;
+            }
+            bits = bits / 2;
+        }
+        doubt = doubt | m.doubt;
+        k += 1;
+    }
+    answer(is_apart, doubt)
+}
+
+// The comparison of two accepted vectors.
+pub fn compare(
+    op: Comparison,
+    a: Header,
+    av: &[u64],
+    au: &[u64],
+    b: Header,
+    bv: &[u64],
+    bu: &[u64],
+) -> LogicBit
+    requires { ⌜ Plane (a .width) (now av) × Plane (a .width) (now au) ⌝ }
+    requires { ⌜ Plane (b .width) (now bv) × Plane (b .width) (now bu) ⌝ }
+    ensures { λ r. ⌜ r ≡ compared op (vector a (lent (now (av .entry)) (now (au .entry)))) (vector b (lent (now (bv .entry)) (now (bu .entry)))) ⌝ }
+{
+    let t = operator(op);
+    let x = extension::inner::extent(t, a, av, au, b);
+    let y = extension::inner::extent(t, b, bv, bu, a);
+    let width = extension::larger(a.width, b.width);
+    scan(op, x, av, au, y, bv, bu, width)
+}
+
+// Whether two accepted operands count as equal reals, as a bit.
+fn equal_reals(a: Operand, av: &[u64], au: &[u64], b: Operand, bv: &[u64], bu: &[u64]) -> LogicBit
+    requires { ⌜ Whole a (lent (now av) (now au)) ⌝ }
+    requires { ⌜ Whole b (lent (now bv) (now bu)) ⌝ }
+    ensures { λ r. ⌜ r ≡ equalReals a (lent (now (av .entry)) (now (au .entry))) b (lent (now (bv .entry)) (now (bu .entry))) ⌝ }
+{
+    if real::inner::equal_reals(a, av, au, b, bv, bu) {
+        LogicBit::One
+    } else {
+        LogicBit::Zero
+    }
+}
+
+// The equality of two accepted operands.
+pub fn equal_operands(
+    a: Operand,
+    av: &[u64],
+    au: &[u64],
+    b: Operand,
+    bv: &[u64],
+    bu: &[u64],
+) -> LogicBit
+    requires { ⌜ Whole a (lent (now av) (now au)) ⌝ }
+    requires { ⌜ Whole b (lent (now bv) (now bu)) ⌝ }
+    ensures { λ r. ⌜ r ≡ equalOperands a (lent (now (av .entry)) (now (au .entry))) b (lent (now (bv .entry)) (now (bu .entry))) ⌝ }
+{
+    match a {
+        Operand::Vector(h) => match b {
+            Operand::Vector(g) => compare(Comparison::Equal, h, av, au, g, bv, bu),
+            Operand::Real(_) => equal_reals(a, av, au, b, bv, bu),
+        },
+        Operand::Real(_) => equal_reals(a, av, au, b, bv, bu),
+    }
+}

@@ -1,0 +1,89 @@
+// Whether two operands are equal, in one bit: equality, case, casez and casex equality, and wildcard equality.
+use planes::BitAnswer;
+use refusal::Verdict;
+use value::Header;
+use value::Operand;
+use value::check_operand;
+use value::check_pair;
+ghost use mathlib.Core.Path.{_≡_};
+ghost use Rattle.words.specs.Planes.{lent};
+ghost use Rattle.planes.specs.Entries.{bitAnswer};
+ghost use Rattle.compare.specs.declared.Comparison.the-variants.{CaseEqual, CasezEqual, CasexEqual, WildcardEqual};
+ghost use Rattle.compare.specs.Compare.{comparison, isEqual};
+
+pub mod inner;
+
+// How two vectors are compared, place by place.
+pub enum Comparison {
+    Equal,
+    CaseEqual,
+    CasezEqual,
+    CasexEqual,
+    WildcardEqual,
+}
+
+// 0 if two known bits differ, else x on any unknown bit, else 1. Where either operand is a real, both count as reals.
+pub fn is_equal(a: Operand, av: &[u64], au: &[u64], b: Operand, bv: &[u64], bu: &[u64]) -> BitAnswer
+    ensures { λ r. ⌜ bitAnswer r ≡ isEqual a (lent (now (av .entry)) (now (au .entry))) b (lent (now (bv .entry)) (now (bu .entry))) ⌝ }
+{
+    match check_operand(a, av, au) {
+        Verdict::Refused(r) => BitAnswer::Refused(r),
+        Verdict::Accepted => match check_operand(b, bv, bu) {
+            Verdict::Refused(r) => BitAnswer::Refused(r),
+            Verdict::Accepted => BitAnswer::Bit(inner::equal_operands(a, av, au, b, bv, bu)),
+        },
+    }
+}
+
+// The comparison of two vectors of any widths.
+fn compare_vectors(
+    op: Comparison,
+    a: Header,
+    av: &[u64],
+    au: &[u64],
+    b: Header,
+    bv: &[u64],
+    bu: &[u64],
+) -> BitAnswer
+    ensures { λ r. ⌜ bitAnswer r ≡ comparison op a (lent (now (av .entry)) (now (au .entry))) b (lent (now (bv .entry)) (now (bu .entry))) ⌝ }
+{
+    match check_pair(a, av, au, b, bv, bu) {
+        Verdict::Refused(r) => BitAnswer::Refused(r),
+        Verdict::Accepted => BitAnswer::Bit(inner::compare(op, a, av, au, b, bv, bu)),
+    }
+}
+
+// 1 if the bit codes are the same at every place, else 0.
+pub fn case_eq(a: Header, av: &[u64], au: &[u64], b: Header, bv: &[u64], bu: &[u64]) -> BitAnswer
+    ensures { λ r. ⌜ bitAnswer r ≡ comparison CaseEqual a (lent (now (av .entry)) (now (au .entry))) b (lent (now (bv .entry)) (now (bu .entry))) ⌝ }
+{
+    compare_vectors(Comparison::CaseEqual, a, av, au, b, bv, bu)
+}
+
+// As case equality, but places with z on either side are skipped.
+pub fn casez_eq(a: Header, av: &[u64], au: &[u64], b: Header, bv: &[u64], bu: &[u64]) -> BitAnswer
+    ensures { λ r. ⌜ bitAnswer r ≡ comparison CasezEqual a (lent (now (av .entry)) (now (au .entry))) b (lent (now (bv .entry)) (now (bu .entry))) ⌝ }
+{
+    compare_vectors(Comparison::CasezEqual, a, av, au, b, bv, bu)
+}
+
+// As case equality, but places with x or z on either side are skipped.
+pub fn casex_eq(a: Header, av: &[u64], au: &[u64], b: Header, bv: &[u64], bu: &[u64]) -> BitAnswer
+    ensures { λ r. ⌜ bitAnswer r ≡ comparison CasexEqual a (lent (now (av .entry)) (now (au .entry))) b (lent (now (bv .entry)) (now (bu .entry))) ⌝ }
+{
+    compare_vectors(Comparison::CasexEqual, a, av, au, b, bv, bu)
+}
+
+// Places where the right bit is unknown are skipped: 0 if two known bits differ, else x if a compared left bit is unknown, else 1.
+pub fn wildcard_eq(
+    a: Header,
+    av: &[u64],
+    au: &[u64],
+    b: Header,
+    bv: &[u64],
+    bu: &[u64],
+) -> BitAnswer
+    ensures { λ r. ⌜ bitAnswer r ≡ comparison WildcardEqual a (lent (now (av .entry)) (now (au .entry))) b (lent (now (bv .entry)) (now (bu .entry))) ⌝ }
+{
+    compare_vectors(Comparison::WildcardEqual, a, av, au, b, bv, bu)
+}
