@@ -8,6 +8,8 @@ use value::Header;
 ghost use mathlib.Core.Path.{_≡_};
 ghost use Rattle.words.specs.Planes.{lent};
 ghost use Rattle.reduce.specs.Reduce.{reduceAnd, reduceOr, reduceXor, reduction, isNonzero, logicAnd, logicOr};
+ghost use Rattle.compare.specs.declared.Comparison.the-variants.{CaseEqual, CasezEqual, CasexEqual, WildcardEqual};
+ghost use Rattle.compare.specs.Compare.{comparison, isEqual};
 ghost use Rattle.coded.specs.Coded.{codedBit, codedTruth, operandOf};
 
 // `reduce::reduce_and`
@@ -79,4 +81,81 @@ pub extern "C" fn vowherunga_logic_or(
     let x = operand(a);
     let y = operand(b);
     bit_result(reduce::logic_or(x, av, au, y, bv, bu))
+}
+
+// `compare::is_equal`
+#[no_mangle]
+pub extern "C" fn vowherunga_is_equal(
+    a: OperandArgument,
+    av: &[u64],
+    au: &[u64],
+    b: OperandArgument,
+    bv: &[u64],
+    bu: &[u64],
+) -> BitResult
+    ensures { λ r. ⌜ r ≡ codedBit (isEqual (operandOf a) (lent (now (av .entry)) (now (au .entry))) (operandOf b) (lent (now (bv .entry)) (now (bu .entry)))) ⌝ }
+{
+    let x = operand(a);
+    let y = operand(b);
+    bit_result(compare::is_equal(x, av, au, y, bv, bu))
+}
+
+// `compare::case_eq`
+#[no_mangle]
+pub extern "C" fn vowherunga_case_eq(
+    a: Header,
+    av: &[u64],
+    au: &[u64],
+    b: Header,
+    bv: &[u64],
+    bu: &[u64],
+) -> BitResult
+    ensures { λ r. ⌜ r ≡ codedBit (comparison CaseEqual a (lent (now (av .entry)) (now (au .entry))) b (lent (now (bv .entry)) (now (bu .entry)))) ⌝ }
+{
+    bit_result(compare::case_eq(a, av, au, b, bv, bu))
+}
+
+// `compare::casez_eq`
+#[no_mangle]
+pub extern "C" fn vowherunga_casez_eq(
+    a: Header,
+    av: &[u64],
+    au: &[u64],
+    b: Header,
+    bv: &[u64],
+    bu: &[u64],
+) -> BitResult
+    ensures { λ r. ⌜ r ≡ codedBit (comparison CasezEqual a (lent (now (av .entry)) (now (au .entry))) b (lent (now (bv .entry)) (now (bu .entry)))) ⌝ }
+{
+    bit_result(compare::casez_eq(a, av, au, b, bv, bu))
+}
+
+// `compare::casex_eq`
+#[no_mangle]
+pub extern "C" fn vowherunga_casex_eq(
+    a: Header,
+    av: &[u64],
+    au: &[u64],
+    b: Header,
+    bv: &[u64],
+    bu: &[u64],
+) -> BitResult
+    ensures { λ r. ⌜ r ≡ codedBit (comparison CasexEqual a (lent (now (av .entry)) (now (au .entry))) b (lent (now (bv .entry)) (now (bu .entry)))) ⌝ }
+{
+    bit_result(compare::casex_eq(a, av, au, b, bv, bu))
+}
+
+// `compare::wildcard_eq`
+#[no_mangle]
+pub extern "C" fn vowherunga_wildcard_eq(
+    a: Header,
+    av: &[u64],
+    au: &[u64],
+    b: Header,
+    bv: &[u64],
+    bu: &[u64],
+) -> BitResult
+    ensures { λ r. ⌜ r ≡ codedBit (comparison WildcardEqual a (lent (now (av .entry)) (now (au .entry))) b (lent (now (bv .entry)) (now (bu .entry)))) ⌝ }
+{
+    bit_result(compare::wildcard_eq(a, av, au, b, bv, bu))
 }

@@ -1,4 +1,5 @@
 // Word forms, for vectors of at most 64 bits: a word of each plane in, a pair of words or the code of a bit out.
+use compare::Comparison;
 use lanes::Bitwise;
 use words::Word;
 ghost use mathlib.Core.Path.{_≡_};
@@ -8,6 +9,8 @@ ghost use Rattle.words.specs.Planes.{vectorOf, planesOf};
 ghost use Rattle.lanes.specs.declared.Bitwise.the-variants.{And, Or, Xor, Merge};
 ghost use Rattle.bitwise.specs.Bitwise.{joined, inverted};
 ghost use Rattle.reduce.specs.Reduce.{reduceAnd, reduceOr, reduceXor, truthOf, truthBit};
+ghost use Rattle.compare.specs.declared.Comparison.the-variants.{Equal, CaseEqual, CasezEqual, CasexEqual, WildcardEqual};
+ghost use Rattle.compare.specs.Compare.{compared};
 ghost use Rattle.narrow.specs.Narrow.{single, plain64};
 
 // `narrow::join` by and
@@ -80,4 +83,44 @@ pub extern "C" fn vowherunga_truth_word(a: Word) -> u8
     ensures { λ r. ⌜ r ≡ code (truthBit (truthOf (vectorOf 64 (single a)))) ⌝ }
 {
     bit::to_code(reduce::truth_bit(narrow::truth(a)))
+}
+
+// `narrow::compare` by `is_equal`
+#[no_mangle]
+pub extern "C" fn vowherunga_is_equal_word(a: Word, b: Word) -> u8
+    ensures { λ r. ⌜ r ≡ code (compared Equal (plain64 a) (plain64 b)) ⌝ }
+{
+    bit::to_code(narrow::compare(Comparison::Equal, a, b))
+}
+
+// `narrow::compare` by `case_eq`
+#[no_mangle]
+pub extern "C" fn vowherunga_case_eq_word(a: Word, b: Word) -> u8
+    ensures { λ r. ⌜ r ≡ code (compared CaseEqual (plain64 a) (plain64 b)) ⌝ }
+{
+    bit::to_code(narrow::compare(Comparison::CaseEqual, a, b))
+}
+
+// `narrow::compare` by `casez_eq`
+#[no_mangle]
+pub extern "C" fn vowherunga_casez_eq_word(a: Word, b: Word) -> u8
+    ensures { λ r. ⌜ r ≡ code (compared CasezEqual (plain64 a) (plain64 b)) ⌝ }
+{
+    bit::to_code(narrow::compare(Comparison::CasezEqual, a, b))
+}
+
+// `narrow::compare` by `casex_eq`
+#[no_mangle]
+pub extern "C" fn vowherunga_casex_eq_word(a: Word, b: Word) -> u8
+    ensures { λ r. ⌜ r ≡ code (compared CasexEqual (plain64 a) (plain64 b)) ⌝ }
+{
+    bit::to_code(narrow::compare(Comparison::CasexEqual, a, b))
+}
+
+// `narrow::compare` by `wildcard_eq`
+#[no_mangle]
+pub extern "C" fn vowherunga_wildcard_eq_word(a: Word, b: Word) -> u8
+    ensures { λ r. ⌜ r ≡ code (compared WildcardEqual (plain64 a) (plain64 b)) ⌝ }
+{
+    bit::to_code(narrow::compare(Comparison::WildcardEqual, a, b))
 }

@@ -1,3 +1,4 @@
 pub mod Singles
 pub mod Operators
 pub mod Answers
+pub mod Comparisons

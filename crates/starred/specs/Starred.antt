@@ -10,6 +10,8 @@ use Rattle.value.specs.Checks.{Vector}
 use Rattle.lanes.specs.declared.Bitwise.the-variants.{And, Or, Xor, Merge}
 use Rattle.bitwise.specs.Bitwise.{joined, inverted}
 use Rattle.reduce.specs.Reduce.{reduceAnd, reduceOr, reduceXor}
+use Rattle.compare.specs.declared.Comparison.the-variants.{Equal, CaseEqual, CasezEqual, WildcardEqual}
+use Rattle.compare.specs.Compare.{compared}
 
 abbrev x : ℕ
 x = 2
@@ -54,7 +56,14 @@ starred =
     ∷ joined Xor (u (1 ∷ x ∷ [])) (u (1 ∷ 1 ∷ [])) is (0 ∷ x ∷ [])
     ∷ inverted (u (0 ∷ z ∷ 1 ∷ []) .bits) is (1 ∷ x ∷ 0 ∷ [])
     ∷ joined Merge (u (1 ∷ 0 ∷ x ∷ z ∷ [])) (u (1 ∷ 0 ∷ x ∷ z ∷ [])) is (1 ∷ 0 ∷ x ∷ x ∷ [])
+    ∷ (compared Equal (u (1 ∷ x ∷ [])) (u (0 ∷ x ∷ [])) ∷ []) is (0 ∷ [])
+    ∷ (compared Equal (u (1 ∷ x ∷ [])) (u (1 ∷ x ∷ [])) ∷ []) is (x ∷ [])
     ∷ (reduceAnd [] ∷ []) is (1 ∷ [])
     ∷ (reduceOr [] ∷ []) is (0 ∷ [])
     ∷ (reduceXor [] ∷ []) is (0 ∷ [])
+    ∷ (compared WildcardEqual (u (0 ∷ x ∷ [])) (u (1 ∷ 1 ∷ [])) ∷ []) is (0 ∷ [])
+    ∷ (compared WildcardEqual (u (1 ∷ x ∷ [])) (u (1 ∷ 1 ∷ [])) ∷ []) is (x ∷ [])
+    ∷ (compared WildcardEqual (u (1 ∷ 1 ∷ [])) (u (1 ∷ x ∷ [])) ∷ []) is (1 ∷ [])
+    ∷ (compared CasezEqual (u (1 ∷ x ∷ [])) (u (1 ∷ z ∷ [])) ∷ []) is (1 ∷ [])
+    ∷ (compared CaseEqual (s (x ∷ [])) (s (x ∷ x ∷ x ∷ [])) ∷ []) is (1 ∷ [])
     ∷ []
