@@ -6,12 +6,17 @@ use crate::text::field;
 use crate::text::operand;
 use check::same;
 use coded::OperandArgument;
+use ffi::answers::vowherunga_case_eq;
+use ffi::answers::vowherunga_casex_eq;
+use ffi::answers::vowherunga_casez_eq;
+use ffi::answers::vowherunga_is_equal;
 use ffi::answers::vowherunga_is_nonzero;
 use ffi::answers::vowherunga_logic_and;
 use ffi::answers::vowherunga_logic_or;
 use ffi::answers::vowherunga_reduce_and;
 use ffi::answers::vowherunga_reduce_or;
 use ffi::answers::vowherunga_reduce_xor;
+use ffi::answers::vowherunga_wildcard_eq;
 use ffi::vectors::vowherunga_bitwise_and;
 use ffi::vectors::vowherunga_bitwise_not;
 use ffi::vectors::vowherunga_bitwise_or;
@@ -36,7 +41,7 @@ pub(crate) fn of_one(name: &[u8], a: OperandArgument, av: &[u64], au: &[u64]) ->
     Answer::NoCall
 }
 
-// An answer bit of two operands.
+// An answer bit of two operands, each a vector or a real.
 pub(crate) fn of_two(
     name: &[u8],
     a: OperandArgument,
@@ -51,6 +56,36 @@ pub(crate) fn of_two(
     }
     if same(name, b"logic_or") {
         return of_bit(vowherunga_logic_or(a, av, au, b, bv, bu));
+    }
+    if same(name, b"is_equal") {
+        return of_bit(vowherunga_is_equal(a, av, au, b, bv, bu));
+    }
+    let x = a.header;
+    let y = b.header;
+    of_vectors(name, x, av, au, y, bv, bu)
+}
+
+// An answer bit of two vectors.
+fn of_vectors(
+    name: &[u8],
+    a: Header,
+    av: &[u64],
+    au: &[u64],
+    b: Header,
+    bv: &[u64],
+    bu: &[u64],
+) -> Answer {
+    if same(name, b"case_eq") {
+        return of_bit(vowherunga_case_eq(a, av, au, b, bv, bu));
+    }
+    if same(name, b"casez_eq") {
+        return of_bit(vowherunga_casez_eq(a, av, au, b, bv, bu));
+    }
+    if same(name, b"casex_eq") {
+        return of_bit(vowherunga_casex_eq(a, av, au, b, bv, bu));
+    }
+    if same(name, b"wildcard_eq") {
+        return of_bit(vowherunga_wildcard_eq(a, av, au, b, bv, bu));
     }
     Answer::NoCall
 }
