@@ -6,7 +6,7 @@
 //! a call gives its result, or one [`Refusal`] and then no lent word has changed.
 //!
 //! ```
-//! use vowherunga::{bitwise, planes, reduce, value, LogicBit, Operand, Refusal, Truth};
+//! use vowherunga::{bitwise, planes, reduce, value, Header, LogicBit, Narrow, Operand, Refusal, Truth, Word};
 //!
 //! # fn main() -> Result<(), Refusal> {
 //! // A vector of 65 bits, all x.
@@ -35,6 +35,10 @@
 //! // Whether that is true depends on the two x.
 //! assert_eq!(reduce::is_nonzero(Operand::Vector(result), &ov, &ou)?, Truth::Unknown);
 //! assert_eq!(reduce::is_nonzero(Operand::Real(0.5), &[], &[])?, Truth::True);
+//!
+//! // At most 64 bits can be held by value: checked once, no planes.
+//! let x1 = Narrow::new(Header { width: 2, ..short }, 0b01, 0b10)?;
+//! assert_eq!(x1.bitwise_not().bits(), Word { value: 0b00, unknown: 0b10 });
 //! # Ok(())
 //! # }
 //! ```
@@ -42,6 +46,7 @@
 //! The feature `reference` adds the Rust program whose behaviour the library keeps, for comparisons; it needs that program's source.
 mod bit;
 pub mod bitwise;
+mod narrow;
 pub mod planes;
 mod raw;
 pub mod real;
@@ -53,6 +58,7 @@ pub mod value;
 pub mod reference;
 
 pub use bit::LogicBit;
+pub use narrow::Narrow;
 pub use planes::{Word, MAX_WIDTH};
 pub use reduce::Truth;
 pub use refusal::Refusal;

@@ -1,6 +1,6 @@
 //! The exports of the crate `ffi`, as C sees them: a slice is a pointer and a length, a bit its code, a refusal its number (0: done).
 //! Nothing holds these declarations to crates/ffi/src but the tests: they stand in its order, with its names.
-use crate::Header;
+use crate::{Header, Word};
 
 #[repr(C)]
 pub struct BitResult {
@@ -164,4 +164,21 @@ alike! {
         bv: *const u64, bv_len: usize,
         bu: *const u64, bu_len: usize
     ) -> BitResult
+}
+
+// narrow_words.rt
+alike! {
+    WordOfTwo: vowherunga_and_word, vowherunga_or_word, vowherunga_xor_word, vowherunga_merge_word: (a: Word, b: Word) -> Word
+}
+
+extern "C" {
+    pub fn vowherunga_not_word(width: u32, a: Word) -> Word;
+
+    pub fn vowherunga_reduce_and_word(width: u32, a: Word) -> u8;
+
+    pub fn vowherunga_reduce_or_word(a: Word) -> u8;
+
+    pub fn vowherunga_reduce_xor_word(a: Word) -> u8;
+
+    pub fn vowherunga_truth_word(a: Word) -> u8;
 }

@@ -10,6 +10,28 @@ pub enum Truth {
     Unknown,
 }
 
+impl Truth {
+    /// The truth that a bit stands for.
+    pub(crate) fn of_bit(bit: LogicBit) -> Truth {
+        match bit {
+            LogicBit::Zero => Truth::False,
+            LogicBit::One => Truth::True,
+            LogicBit::X | LogicBit::Z => Truth::Unknown,
+        }
+    }
+}
+
+impl From<Truth> for LogicBit {
+    /// 0, 1, or x where the truth is unknown.
+    fn from(truth: Truth) -> LogicBit {
+        match truth {
+            Truth::False => LogicBit::Zero,
+            Truth::True => LogicBit::One,
+            Truth::Unknown => LogicBit::X,
+        }
+    }
+}
+
 /// The bit of a call that answers one.
 pub(crate) fn bit(r: raw::BitResult) -> Result<LogicBit, Refusal> {
     Refusal::of_call(r.refusal)?;
@@ -41,11 +63,7 @@ pub fn reduce_xor(a: Header, value: &[u64], unknown: &[u64]) -> Result<LogicBit,
 /// True on a known 1, else unknown on an unknown bit, else false. A real is true if it is not equal to 0, so NaN is true.
 pub fn is_nonzero(a: Operand, value: &[u64], unknown: &[u64]) -> Result<Truth, Refusal> {
     let answer = bit(unsafe { raw::vowherunga_is_nonzero(a.into(), value.as_ptr(), value.len(), unknown.as_ptr(), unknown.len()) })?;
-    Ok(match answer {
-        LogicBit::Zero => Truth::False,
-        LogicBit::One => Truth::True,
-        LogicBit::X | LogicBit::Z => Truth::Unknown,
-    })
+    Ok(Truth::of_bit(answer))
 }
 
 /// A call that answers a bit of two operands.

@@ -5,6 +5,7 @@ mod bitwise;
 mod constructors;
 #[path = "../lent/mod.rs"]
 mod lent;
+mod narrow;
 mod planes;
 mod reduce;
 mod samples;

@@ -4,7 +4,7 @@ use crate::samples::{each_pair, each_pair_with_a_real, each_vector, some_reals, 
 use vowherunga::reference::draw::Rng;
 use vowherunga::reference::value::Value;
 use vowherunga::LogicBit::{One, Zero, X};
-use vowherunga::{reduce, value, Header, LogicBit, Operand, Refusal, Truth};
+use vowherunga::{reduce, value, Header, LogicBit, Operand, Refusal};
 
 type OfOne = fn(Header, &[u64], &[u64]) -> Result<LogicBit, Refusal>;
 type OfTwo = fn(Operand, &[u64], &[u64], Operand, &[u64], &[u64]) -> Result<LogicBit, Refusal>;
@@ -34,8 +34,8 @@ fn reduce_xor() {
     reduction(22, reduce::reduce_xor, Value::reduce_xor);
 }
 
-/// The reference's truth; the bit that stands for one.
-fn truth_bit(truth: Option<bool>) -> Value {
+/// The bit that stands for a truth of the reference.
+pub fn truth_bit(truth: Option<bool>) -> Value {
     match truth {
         Some(known) => Value::from_u64(u64::from(known), 1),
         None => Value::new(1),
@@ -46,11 +46,7 @@ fn truth_bit(truth: Option<bool>) -> Value {
 fn is_nonzero() {
     let mut tally = Tally::default();
     let mut compare = |a: &Sample| {
-        let answer = reduce::is_nonzero(a.operand, &a.value, &a.unknown).map(|truth| match truth {
-            Truth::False => Zero,
-            Truth::True => One,
-            Truth::Unknown => X,
-        });
+        let answer = reduce::is_nonzero(a.operand, &a.value, &a.unknown).map(LogicBit::from);
         tally.compare(answer, truth_bit(a.reference.is_nonzero()), || format!("{a:?}"));
     };
     each_vector(23, &mut compare);

@@ -2,7 +2,7 @@
 use crate::lent::Lent;
 use crate::number;
 use crate::table::{fills_and_reals, vectors, Input};
-use vowherunga::{bitwise, planes, real, value, Header, LogicBit, Refusal, Word, MAX_WIDTH};
+use vowherunga::{bitwise, planes, real, value, Header, LogicBit, Narrow, Refusal, Word, MAX_WIDTH};
 
 const ONES: Word = Word {
     value: u64::MAX,
@@ -46,6 +46,20 @@ fn of_splice_bits64() {
             }
         }
     }
+}
+
+/// A vector that is held by value is checked as planes of one word.
+#[test]
+fn of_narrow() {
+    let mut refused = [0; 5];
+    for input in vectors().into_iter().chain(fills_and_reals()) {
+        if let (Some(header), [value], [unknown]) = (input.header(), &input.value[..], &input.unknown[..]) {
+            let got = number(Narrow::new(header, *value, *unknown));
+            assert_eq!(got, input.operators, "{header:?}");
+            refused[usize::from(got)] += 1;
+        }
+    }
+    assert!(refused.iter().all(|n| *n > 0), "{refused:?} by number");
 }
 
 type Maker = fn(u32, &mut [u64], &mut [u64]) -> Result<Header, Refusal>;
