@@ -56,26 +56,28 @@ fn is_nonzero() {
     tally.expect(65_000, &[Zero, One, X]);
 }
 
-/// A logical operator answers as the reference does, over each pair of vectors and each with a real.
-fn logical(seed: u64, ours: OfTwo, theirs: fn(&Value, &Value) -> Value) {
-    let mut tally = Tally::default();
-    let mut compare = |a: &Sample, b: &Sample| {
+/// An operator of two operands answers as the reference does, over each pair of vectors and each with a real; the latter have the given answers.
+pub fn of_operands(seed: u64, ours: OfTwo, theirs: fn(&Value, &Value) -> Value, with_a_real: &[LogicBit]) {
+    let compare = |tally: &mut Tally, a: &Sample, b: &Sample| {
         let answer = ours(a.operand, &a.value, &a.unknown, b.operand, &b.value, &b.unknown);
         tally.compare(answer, theirs(&a.reference, &b.reference), || format!("{a:?}, {b:?}"));
     };
-    each_pair(seed, &mut compare);
-    each_pair_with_a_real(seed, &mut compare);
-    tally.expect(350_000, &[Zero, One, X]);
+    let mut tally = Tally::default();
+    each_pair(seed, |a, b| compare(&mut tally, a, b));
+    tally.expect(180_000, &[Zero, One, X]);
+    let mut tally = Tally::default();
+    each_pair_with_a_real(seed, |a, b| compare(&mut tally, a, b));
+    tally.expect(230_000, with_a_real);
 }
 
 #[test]
 fn logic_and() {
-    logical(24, reduce::logic_and, Value::logic_and);
+    of_operands(24, reduce::logic_and, Value::logic_and, &[Zero, One, X]);
 }
 
 #[test]
 fn logic_or() {
-    logical(25, reduce::logic_or, Value::logic_or);
+    of_operands(25, reduce::logic_or, Value::logic_or, &[Zero, One, X]);
 }
 
 /// What the other tests lend is a vector; what is not one stands among the refusals.
