@@ -12,6 +12,18 @@ pub struct Narrow {
 /// An operator of two vectors over planes.
 type OfPlanes = fn(Header, &[u64], &[u64], Header, &[u64], &[u64], &mut [u64], &mut [u64]) -> Result<Header, Refusal>;
 
+/// The result's bits.
+#[cold]
+fn by_planes_of_one_word(call: OfPlanes, (a, x): (Header, Word), (b, y): (Header, Word)) -> Word {
+    let (mut value, mut unknown) = ([0], [0]);
+    let done = call(a, &[x.value], &[x.unknown], b, &[y.value], &[y.unknown], &mut value, &mut unknown);
+    done.unwrap_or_else(|r| unreachable!("checked vectors are {r}"));
+    Word {
+        value: value[0],
+        unknown: unknown[0],
+    }
+}
+
 impl Narrow {
     /// Refused as in [`check_vector`](value::check_vector) with planes of one word: above 64 bits by 2.
     #[inline]
@@ -43,39 +55,16 @@ impl Narrow {
         }
     }
 
-    /// An operator by its word form, which stretches no fill; a fill goes through planes of one word.
+    /// An operator by its word form, which stretches no fill; a fill goes through planes of one word. Either way the result has the joint header.
     #[inline(always)]
     fn join(self, other: Narrow, by_word: raw::WordOfTwo, by_planes: OfPlanes) -> Narrow {
-        if self.header.is_fill || other.header.is_fill {
-            return self.join_planes(other, by_planes);
-        }
+        let bits = match self.header.is_fill || other.header.is_fill {
+            false => unsafe { by_word(self.bits, other.bits) },
+            true => by_planes_of_one_word(by_planes, (self.header, self.bits), (other.header, other.bits)),
+        };
         Narrow {
             header: self.joint_header(other),
-            bits: unsafe { by_word(self.bits, other.bits) },
-        }
-    }
-
-    #[cold]
-    fn join_planes(self, other: Narrow, call: OfPlanes) -> Narrow {
-        let (a, b) = (self.bits, other.bits);
-        let (mut value, mut unknown) = ([0], [0]);
-        let header = call(
-            self.header,
-            &[a.value],
-            &[a.unknown],
-            other.header,
-            &[b.value],
-            &[b.unknown],
-            &mut value,
-            &mut unknown,
-        );
-        let bits = Word {
-            value: value[0],
-            unknown: unknown[0],
-        };
-        match header {
-            Ok(header) => Narrow { header, bits },
-            Err(r) => unreachable!("checked vectors are {r}"),
+            bits,
         }
     }
 

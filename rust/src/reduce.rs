@@ -12,6 +12,7 @@ pub enum Truth {
 
 impl Truth {
     /// The truth that a bit stands for.
+    #[inline]
     pub(crate) fn of_bit(bit: LogicBit) -> Truth {
         match bit {
             LogicBit::Zero => Truth::False,

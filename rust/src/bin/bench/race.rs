@@ -19,8 +19,10 @@ pub struct Race {
 pub struct Result {
     /// For each side the median time of a call in ns.
     pub times: Vec<f64>,
-    /// How far the ratio of the last side to the first lies apart between rounds: its least and its largest.
-    pub ratio: (f64, f64),
+    /// The ratio of the last side's time to the first's: its median over the rounds, its least and its largest.
+    pub ratio: f64,
+    pub least: f64,
+    pub largest: f64,
 }
 
 fn median(times: &[f64]) -> f64 {
@@ -75,11 +77,11 @@ impl Race {
         let times = self.rounds.iter().map(|rounds| median(&rounds.concat())).collect();
         let (first, last) = (&self.rounds[0], &self.rounds[self.rounds.len() - 1]);
         let ratios: Vec<f64> = first.iter().zip(last).map(|(f, l)| median(l) / median(f)).collect();
-        let least = ratios.iter().copied().fold(f64::INFINITY, f64::min);
-        let largest = ratios.iter().copied().fold(0.0, f64::max);
         Result {
             times,
-            ratio: (least, largest),
+            ratio: median(&ratios),
+            least: ratios.iter().copied().fold(f64::INFINITY, f64::min),
+            largest: ratios.iter().copied().fold(0.0, f64::max),
         }
     }
 }
