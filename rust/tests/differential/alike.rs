@@ -23,20 +23,15 @@ pub fn makes_alike(
     let stood = rng.unmasked(want.header.width);
     let (answer, value, unknown) = lend(&stood, ours);
     assert_eq!(answer, Ok(want.header), "{}", of());
-    assert!(
-        value == want.value,
-        "value plane of {}: {:x?}, not {:x?}",
-        of(),
-        first(&value, &want.value),
-        first(&want.value, &value)
-    );
-    assert!(
-        unknown == want.unknown,
-        "unknown plane of {}: {:x?}, not {:x?}",
-        of(),
-        first(&unknown, &want.unknown),
-        first(&want.unknown, &unknown)
-    );
+    for (plane, got, want) in [("value", value, want.value), ("unknown", unknown, want.unknown)] {
+        assert!(
+            got == want,
+            "{plane} plane of {}: word {:x?}, not {:x?}",
+            of(),
+            first(&got, &want),
+            first(&want, &got)
+        );
+    }
 }
 
 /// The first word that another plane has not.
