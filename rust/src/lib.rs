@@ -46,6 +46,7 @@
 //! The feature `reference` adds the Rust program whose behaviour the library keeps, for comparisons; it needs that program's source.
 mod bit;
 pub mod bitwise;
+pub mod compare;
 mod narrow;
 pub mod planes;
 mod raw;

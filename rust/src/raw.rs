@@ -156,11 +156,22 @@ extern "C" {
 }
 
 alike! {
-    BitOfOperands: vowherunga_logic_and, vowherunga_logic_or: (
+    BitOfOperands: vowherunga_logic_and, vowherunga_logic_or, vowherunga_is_equal: (
         a: OperandArgument,
         av: *const u64, av_len: usize,
         au: *const u64, au_len: usize,
         b: OperandArgument,
+        bv: *const u64, bv_len: usize,
+        bu: *const u64, bu_len: usize
+    ) -> BitResult
+}
+
+alike! {
+    BitOfVectors: vowherunga_case_eq, vowherunga_casez_eq, vowherunga_casex_eq, vowherunga_wildcard_eq: (
+        a: Header,
+        av: *const u64, av_len: usize,
+        au: *const u64, au_len: usize,
+        b: Header,
         bv: *const u64, bv_len: usize,
         bu: *const u64, bu_len: usize
     ) -> BitResult

@@ -2,6 +2,7 @@
 //! fixed; nothing is timed.
 mod alike;
 mod bitwise;
+mod compare;
 mod constructors;
 #[path = "../lent/mod.rs"]
 mod lent;

@@ -5,7 +5,7 @@ use crate::number;
 use crate::planes::wrong_lengths;
 use crate::table::{fills_and_reals, vectors, Input};
 use vowherunga::planes::word_count;
-use vowherunga::{bitwise, reduce, value, Header, LogicBit, Operand, Refusal, Truth, MAX_WIDTH};
+use vowherunga::{bitwise, compare, reduce, value, Header, LogicBit, Operand, Refusal, Truth, MAX_WIDTH};
 
 /// An operand as it is lent.
 struct Given<'a> {
@@ -31,19 +31,25 @@ enum Entry {
     Check(fn(Header, Plane, Plane) -> Result<(), Refusal>),
     Reduction(fn(Header, Plane, Plane) -> Result<LogicBit, Refusal>),
     Truth(fn(Operand, Plane, Plane) -> Result<Truth, Refusal>),
-    Logical(fn(Operand, Plane, Plane, Operand, Plane, Plane) -> Result<LogicBit, Refusal>),
+    OfOperands(fn(Operand, Plane, Plane, Operand, Plane, Plane) -> Result<LogicBit, Refusal>),
+    Comparison(fn(Header, Plane, Plane, Header, Plane, Plane) -> Result<LogicBit, Refusal>),
     Not(fn(Header, Plane, Plane, Output, Output) -> Result<Header, Refusal>),
     Bitwise(fn(Header, Plane, Plane, Header, Plane, Plane, Output, Output) -> Result<Header, Refusal>),
 }
 
-const ENTRIES: [(&str, Entry); 12] = [
+const ENTRIES: [(&str, Entry); 17] = [
     ("check_vector", Entry::Check(value::check_vector)),
     ("reduce_and", Entry::Reduction(reduce::reduce_and)),
     ("reduce_or", Entry::Reduction(reduce::reduce_or)),
     ("reduce_xor", Entry::Reduction(reduce::reduce_xor)),
     ("is_nonzero", Entry::Truth(reduce::is_nonzero)),
-    ("logic_and", Entry::Logical(reduce::logic_and)),
-    ("logic_or", Entry::Logical(reduce::logic_or)),
+    ("logic_and", Entry::OfOperands(reduce::logic_and)),
+    ("logic_or", Entry::OfOperands(reduce::logic_or)),
+    ("is_equal", Entry::OfOperands(compare::is_equal)),
+    ("case_eq", Entry::Comparison(compare::case_eq)),
+    ("casez_eq", Entry::Comparison(compare::casez_eq)),
+    ("casex_eq", Entry::Comparison(compare::casex_eq)),
+    ("wildcard_eq", Entry::Comparison(compare::wildcard_eq)),
     ("bitwise_not", Entry::Not(bitwise::bitwise_not)),
     ("bitwise_and", Entry::Bitwise(bitwise::bitwise_and)),
     ("bitwise_or", Entry::Bitwise(bitwise::bitwise_or)),
@@ -53,11 +59,11 @@ const ENTRIES: [(&str, Entry); 12] = [
 
 impl Entry {
     fn has_two_operands(&self) -> bool {
-        matches!(self, Entry::Logical(_) | Entry::Bitwise(_))
+        matches!(self, Entry::OfOperands(_) | Entry::Comparison(_) | Entry::Bitwise(_))
     }
 
     fn takes_reals(&self) -> bool {
-        matches!(self, Entry::Truth(_) | Entry::Logical(_))
+        matches!(self, Entry::Truth(_) | Entry::OfOperands(_))
     }
 
     fn writes(&self) -> bool {
@@ -70,7 +76,8 @@ impl Entry {
             Entry::Check(f) => number(f(a.header(), a.value, a.unknown)),
             Entry::Reduction(f) => number(f(a.header(), a.value, a.unknown)),
             Entry::Truth(f) => number(f(a.operand, a.value, a.unknown)),
-            Entry::Logical(f) => number(f(a.operand, a.value, a.unknown, b.operand, b.value, b.unknown)),
+            Entry::OfOperands(f) => number(f(a.operand, a.value, a.unknown, b.operand, b.value, b.unknown)),
+            Entry::Comparison(f) => number(f(a.header(), a.value, a.unknown, b.header(), b.value, b.unknown)),
             Entry::Not(f) => number(f(a.header(), a.value, a.unknown, ov, ou)),
             Entry::Bitwise(f) => number(f(a.header(), a.value, a.unknown, b.header(), b.value, b.unknown, ov, ou)),
         }
@@ -141,5 +148,5 @@ fn of_operators() {
             };
         }
     }
-    assert!(calls > 28_000, "{calls} calls");
+    assert!(calls > 33_000, "{calls} calls");
 }
