@@ -13,7 +13,7 @@ use race::{Race, Side};
 use std::hint::black_box;
 use vowherunga::reference::draw::Rng;
 use vowherunga::reference::value::Value;
-use vowherunga::{bitwise, reduce, Header, LogicBit, Narrow, Operand, Refusal, MAX_WIDTH};
+use vowherunga::{bitwise, compare, reduce, Header, LogicBit, Narrow, Operand, Refusal, MAX_WIDTH};
 
 const WIDTHS: [u32; 7] = [1, 32, 64, 65, 128, 4096, MAX_WIDTH];
 const ROUNDS: usize = 5;
@@ -101,6 +101,21 @@ impl Rows {
         });
     }
 
+    /// A comparison of two equal vectors.
+    fn comparison(
+        &mut self,
+        op: &'static str,
+        theirs: impl Fn(&Value, &Value) -> Value + Copy + 'static,
+        ours: impl Fn(&Input, &Input) -> Result<LogicBit, Refusal> + Copy + 'static,
+    ) {
+        self.add(op, |rng, width, mixed| {
+            let seed = rng.next();
+            let [a, b] = [(), ()].map(|()| Input::random(&mut Rng::new(seed), width, mixed));
+            let reference = side(move || theirs(black_box(a.reference), black_box(b.reference)));
+            (reference, side(move || ours(black_box(&a), black_box(&b)).unwrap()), None)
+        });
+    }
+
     /// A reduction, over inputs that a rule gives.
     fn reduction(
         &mut self,
@@ -183,6 +198,16 @@ fn rows() -> Rows {
     rows.of_two("xor", Value::bitwise_xor, bitwise::bitwise_xor, Narrow::bitwise_xor);
     rows.of_two("merge", Value::merge_unknown, bitwise::merge_unknown, Narrow::merge_unknown);
     rows.not();
+    rows.comparison("equal", Value::is_equal, |a, b| {
+        let [x, y] = [a, b].map(|input| Operand::Vector(input.header));
+        compare::is_equal(x, a.value, a.unknown, y, b.value, b.unknown)
+    });
+    rows.comparison("case", Value::case_eq, |a, b| {
+        compare::case_eq(a.header, a.value, a.unknown, b.header, b.value, b.unknown)
+    });
+    rows.comparison("wildcard", Value::wildcard_eq, |a, b| {
+        compare::wildcard_eq(a.header, a.value, a.unknown, b.header, b.value, b.unknown)
+    });
     let ones = |rng: &mut Rng, width, mixed| Input::repeated(rng, width, u64::MAX, mixed);
     let zeros = |rng: &mut Rng, width, mixed| Input::repeated(rng, width, 0, mixed);
     rows.reduction("reduce and", ones, Value::reduce_and, reduce::reduce_and, Narrow::reduce_and);
