@@ -6,7 +6,7 @@
 //! a call gives its result, or one [`Refusal`] and then no lent word has changed.
 //!
 //! ```
-//! use vowherunga::{planes, value, LogicBit, Refusal};
+//! use vowherunga::{bitwise, planes, reduce, value, Header, LogicBit, Narrow, Operand, Refusal, Truth, Word};
 //!
 //! # fn main() -> Result<(), Refusal> {
 //! // A vector of 65 bits, all x.
@@ -24,14 +24,34 @@
 //! let refused = planes::get(64, &v, &u, 0);
 //! assert_eq!(refused, Err(Refusal::PlaneLength));
 //! assert_eq!(refused.unwrap_err().number(), 2);
+//!
+//! // Anded with the number 6 of 3 bits, which is extended by 0: 00..0xx0.
+//! let (mut six, mut known) = ([0], [0]);
+//! let short = value::from_u64(6, 3, &mut six, &mut known)?;
+//! let (mut ov, mut ou) = (vec![0; words], vec![0; words]);
+//! let result = bitwise::bitwise_and(header, &v, &u, short, &six, &known, &mut ov, &mut ou)?;
+//! assert_eq!((result.width, &ov[..], &ou[..]), (65, &[0, 0][..], &[6, 0][..]));
+//!
+//! // Whether that is true depends on the two x.
+//! assert_eq!(reduce::is_nonzero(Operand::Vector(result), &ov, &ou)?, Truth::Unknown);
+//! assert_eq!(reduce::is_nonzero(Operand::Real(0.5), &[], &[])?, Truth::True);
+//!
+//! // At most 64 bits can be held by value: checked once, no planes.
+//! let x1 = Narrow::new(Header { width: 2, ..short }, 0b01, 0b10)?;
+//! assert_eq!(x1.bitwise_not().bits(), Word { value: 0b00, unknown: 0b10 });
 //! # Ok(())
 //! # }
 //! ```
 //!
 //! The feature `reference` adds the Rust program whose behaviour the library keeps, for comparisons; it needs that program's source.
 mod bit;
+pub mod bitwise;
+pub mod compare;
+mod narrow;
 pub mod planes;
 mod raw;
+pub mod real;
+pub mod reduce;
 mod refusal;
 pub mod value;
 
@@ -39,6 +59,8 @@ pub mod value;
 pub mod reference;
 
 pub use bit::LogicBit;
+pub use narrow::Narrow;
 pub use planes::{Word, MAX_WIDTH};
+pub use reduce::Truth;
 pub use refusal::Refusal;
-pub use value::Header;
+pub use value::{Header, Operand};

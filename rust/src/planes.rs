@@ -6,6 +6,7 @@ use crate::{raw, LogicBit, Refusal};
 pub const MAX_WIDTH: u32 = 1_048_576;
 
 /// A word of the value plane and the word of the unknown plane beside it.
+#[repr(C)]
 #[derive(Clone, Copy, Debug, PartialEq, Eq, Hash)]
 pub struct Word {
     pub value: u64,

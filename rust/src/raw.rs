@@ -1,5 +1,6 @@
 //! The exports of the crate `ffi`, as C sees them: a slice is a pointer and a length, a bit its code, a refusal its number (0: done).
-//! Nothing holds these declarations to crates/ffi/src/lib.rt but the tests: they stand in its order, with its names.
+//! Nothing holds these declarations to crates/ffi/src but the tests: they stand in its order, with its names.
+use crate::{Header, Word};
 
 #[repr(C)]
 pub struct BitResult {
@@ -22,6 +23,15 @@ pub struct HeaderResult {
     pub is_fill: bool,
 }
 
+/// A real, or a vector's header.
+#[repr(C)]
+pub struct OperandArgument {
+    pub is_real: bool,
+    pub header: Header,
+    pub real: f64,
+}
+
+// bits.rt
 extern "C" {
     pub fn vowherunga_get(width: u32, value: *const u64, value_len: usize, unknown: *const u64, unknown_len: usize, i: usize) -> BitResult;
 
@@ -51,6 +61,8 @@ extern "C" {
 
     pub fn vowherunga_mask_top(width: u32, value: *mut u64, value_len: usize, unknown: *mut u64, unknown_len: usize) -> u8;
 
+    pub fn vowherunga_check_vector(h: Header, value: *const u64, value_len: usize, unknown: *const u64, unknown_len: usize) -> u8;
+
     pub fn vowherunga_new(width: u32, value: *mut u64, value_len: usize, unknown: *mut u64, unknown_len: usize) -> HeaderResult;
 
     pub fn vowherunga_zero(width: u32, value: *mut u64, value_len: usize, unknown: *mut u64, unknown_len: usize) -> HeaderResult;
@@ -63,4 +75,121 @@ extern "C" {
         unknown: *mut u64,
         unknown_len: usize,
     ) -> HeaderResult;
+}
+
+/// Declares exports that have one list of parameters, and the type of a pointer to one of them.
+macro_rules! alike {
+    ($kind:ident: $($name:ident),*: $parameters:tt -> $answer:ty) => {
+        pub type $kind = unsafe extern "C" fn $parameters -> $answer;
+        extern "C" {
+            $(pub fn $name $parameters -> $answer;)*
+        }
+    };
+}
+
+// vectors.rt
+alike! {
+    VectorOfTwo: vowherunga_bitwise_and, vowherunga_bitwise_or, vowherunga_bitwise_xor, vowherunga_merge_unknown: (
+        a: Header,
+        av: *const u64, av_len: usize,
+        au: *const u64, au_len: usize,
+        b: Header,
+        bv: *const u64, bv_len: usize,
+        bu: *const u64, bu_len: usize,
+        ov: *mut u64, ov_len: usize,
+        ou: *mut u64, ou_len: usize
+    ) -> HeaderResult
+}
+
+extern "C" {
+    pub fn vowherunga_bitwise_not(
+        a: Header,
+        av: *const u64,
+        av_len: usize,
+        au: *const u64,
+        au_len: usize,
+        ov: *mut u64,
+        ov_len: usize,
+        ou: *mut u64,
+        ou_len: usize,
+    ) -> HeaderResult;
+
+    pub fn vowherunga_splice_bits64(
+        a: Header,
+        value: *mut u64,
+        value_len: usize,
+        unknown: *mut u64,
+        unknown_len: usize,
+        pos: usize,
+        bits_value: u64,
+        bits_unknown: u64,
+        n: usize,
+    ) -> BitResult;
+
+    pub fn vowherunga_from_real_wrapped(
+        f: f64,
+        width: u32,
+        value: *mut u64,
+        value_len: usize,
+        unknown: *mut u64,
+        unknown_len: usize,
+    ) -> HeaderResult;
+}
+
+// answers.rt
+alike! {
+    BitOfOne: vowherunga_reduce_and, vowherunga_reduce_or, vowherunga_reduce_xor: (
+        a: Header,
+        value: *const u64, value_len: usize,
+        unknown: *const u64, unknown_len: usize
+    ) -> BitResult
+}
+
+extern "C" {
+    pub fn vowherunga_is_nonzero(
+        a: OperandArgument,
+        value: *const u64,
+        value_len: usize,
+        unknown: *const u64,
+        unknown_len: usize,
+    ) -> BitResult;
+}
+
+alike! {
+    BitOfOperands: vowherunga_logic_and, vowherunga_logic_or, vowherunga_is_equal: (
+        a: OperandArgument,
+        av: *const u64, av_len: usize,
+        au: *const u64, au_len: usize,
+        b: OperandArgument,
+        bv: *const u64, bv_len: usize,
+        bu: *const u64, bu_len: usize
+    ) -> BitResult
+}
+
+alike! {
+    BitOfVectors: vowherunga_case_eq, vowherunga_casez_eq, vowherunga_casex_eq, vowherunga_wildcard_eq: (
+        a: Header,
+        av: *const u64, av_len: usize,
+        au: *const u64, au_len: usize,
+        b: Header,
+        bv: *const u64, bv_len: usize,
+        bu: *const u64, bu_len: usize
+    ) -> BitResult
+}
+
+// narrow_words.rt
+alike! {
+    WordOfTwo: vowherunga_and_word, vowherunga_or_word, vowherunga_xor_word, vowherunga_merge_word: (a: Word, b: Word) -> Word
+}
+
+extern "C" {
+    pub fn vowherunga_not_word(width: u32, a: Word) -> Word;
+
+    pub fn vowherunga_reduce_and_word(width: u32, a: Word) -> u8;
+
+    pub fn vowherunga_reduce_or_word(a: Word) -> u8;
+
+    pub fn vowherunga_reduce_xor_word(a: Word) -> u8;
+
+    pub fn vowherunga_truth_word(a: Word) -> u8;
 }

@@ -53,6 +53,7 @@ impl Refusal {
     }
 
     /// What a call that answers 0 or a refusal's number says.
+    #[inline]
     pub(crate) fn of_call(answer: u8) -> Result<(), Refusal> {
         match answer {
             0 => Ok(()),

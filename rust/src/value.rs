@@ -1,8 +1,10 @@
-//! Constructors: each writes two lent planes whole and gives the vector's header. A width above [`MAX_WIDTH`](crate::MAX_WIDTH) becomes
-//! that. A plane that is not exactly [`word_count`](crate::planes::word_count) words of the width is refused by 5, and nothing is written.
+//! A vector's header, an operand, the check of a vector, and the constructors. A constructor writes two lent planes whole and gives the
+//! vector's header. A width above [`MAX_WIDTH`](crate::MAX_WIDTH) becomes that. A plane that is not exactly
+//! [`word_count`](crate::planes::word_count) words of the width is refused by 5, and nothing is written.
 use crate::{raw, Refusal};
 
-/// A vector's width and marks; its planes come beside it.
+/// A vector's width and marks; its planes come beside it. A fill takes the width of what stands beside it: all its bits become its bit 0.
+#[repr(C)]
 #[derive(Clone, Copy, Debug, PartialEq, Eq, Hash)]
 pub struct Header {
     pub width: u32,
@@ -10,7 +12,37 @@ pub struct Header {
     pub is_fill: bool,
 }
 
-fn header(r: raw::HeaderResult) -> Result<Header, Refusal> {
+/// An operand of equality, truth and the logical operators: a vector, by its header, or a real, whose planes are empty.
+#[derive(Clone, Copy, Debug, PartialEq)]
+pub enum Operand {
+    Vector(Header),
+    Real(f64),
+}
+
+impl From<Operand> for raw::OperandArgument {
+    fn from(operand: Operand) -> raw::OperandArgument {
+        let header = Header {
+            width: 0,
+            is_signed: false,
+            is_fill: false,
+        };
+        match operand {
+            Operand::Vector(header) => raw::OperandArgument {
+                is_real: false,
+                header,
+                real: 0.0,
+            },
+            Operand::Real(real) => raw::OperandArgument {
+                is_real: true,
+                header,
+                real,
+            },
+        }
+    }
+}
+
+/// The header of a call that wrote a vector.
+pub(crate) fn header(r: raw::HeaderResult) -> Result<Header, Refusal> {
     Refusal::of_call(r.refusal)?;
     Ok(Header {
         width: r.width,
@@ -19,7 +51,15 @@ fn header(r: raw::HeaderResult) -> Result<Header, Refusal> {
     })
 }
 
-// In each call below a pointer and a length are those of one slice, which is lent for as long as the call runs and overlaps no other.
+// In each call below a pointer and a length are those of one slice, which is lent for as long as the call runs; a slice that is lent for
+// writing overlaps no other.
+
+/// Whether header and planes are a vector, as every operator asks of an operand: refused by 1 (width above
+/// [`MAX_WIDTH`](crate::MAX_WIDTH)), 2 (a plane that is not exactly its word count), 3 (a bit set at or above the width) or 4 (a fill of
+/// width 0), in this order.
+pub fn check_vector(h: Header, value: &[u64], unknown: &[u64]) -> Result<(), Refusal> {
+    Refusal::of_call(unsafe { raw::vowherunga_check_vector(h, value.as_ptr(), value.len(), unknown.as_ptr(), unknown.len()) })
+}
 
 /// All x.
 pub fn new(width: u32, value: &mut [u64], unknown: &mut [u64]) -> Result<Header, Refusal> {

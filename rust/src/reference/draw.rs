@@ -65,6 +65,42 @@ impl Rng {
         };
         Vector::plain(width, value, unknown)
     }
+
+    /// Marks for a vector of the width: signed, fill. A fill of width 0 is never drawn.
+    fn marks(&mut self, width: u32) -> (bool, bool) {
+        (self.below(2) == 1, width > 0 && self.below(3) == 0)
+    }
+
+    /// Changes up to two bits of a vector, and its marks.
+    fn changed(&mut self, mut v: Vector) -> Vector {
+        let width = v.header.width;
+        for _ in 0..self.below(3).min(u64::from(width)) {
+            v.set_code(self.below(u64::from(width)) as usize, self.below(4) as u8);
+        }
+        (v.header.is_signed, v.header.is_fill) = self.marks(width);
+        v
+    }
+
+    /// A vector with any marks: any bits, or all bits alike but for two at most.
+    pub fn operand(&mut self, width: u32) -> Vector {
+        let mut v = self.vector(width);
+        if self.below(2) == 0 {
+            let code = self.below(4) as u8;
+            (0..width as usize).for_each(|i| v.set_code(i, code));
+        }
+        self.changed(v)
+    }
+
+    /// A vector of a width, with any marks, that agrees with another in all places but two at most; behind the other's end it is extended by
+    /// 0 or by the other's top bit.
+    pub fn like(&mut self, other: &Vector, width: u32) -> Vector {
+        let (w, end) = (width as usize, other.header.width as usize);
+        let top = if end > 0 && self.below(2) == 0 { other.code(end - 1) } else { 0 };
+        let words = planes::word_count(width);
+        let mut v = Vector::plain(width, vec![0; words], vec![0; words]);
+        (0..w).for_each(|i| v.set_code(i, if i < end { other.code(i) } else { top }));
+        self.changed(v)
+    }
 }
 
 /// The n low bits set, n at most 64.

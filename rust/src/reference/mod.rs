@@ -1,9 +1,10 @@
 //! The reference, compiled in place and unmodified, and what every comparison with it needs: a vector that owns its planes, drawn inputs,
-//! and the table of its answers.
+//! reals, and the table of its answers.
 include!(concat!(env!("OUT_DIR"), "/reference.rs"));
 
 pub mod answers;
 pub mod draw;
+pub mod reals;
 
 use crate::{planes, Header};
 use value::{LogicBit, Value, WidePlanes};
@@ -36,6 +37,36 @@ impl Vector {
             is_fill: false,
         };
         Vector { header, value, unknown }
+    }
+
+    /// The code of bit i, below the width.
+    pub fn code(&self, i: usize) -> u8 {
+        let bit = |plane: &[u64]| (plane[i / 64] >> (i % 64) & 1) as u8;
+        bit(&self.value) | bit(&self.unknown) << 1
+    }
+
+    /// Makes bit i, below the width, the one of a code.
+    pub fn set_code(&mut self, i: usize, code: u8) {
+        let put = |plane: &mut [u64], bit: u8| plane[i / 64] = plane[i / 64] & !(1 << (i % 64)) | u64::from(bit) << (i % 64);
+        put(&mut self.value, code & 1);
+        put(&mut self.unknown, code >> 1);
+    }
+
+    /// The reference's value with these bits and marks.
+    pub fn to_value(&self) -> Value {
+        let width = self.header.width;
+        let mut v = match width {
+            0..=64 => Value::from_inline(self.value[0], self.unknown[0], width),
+            _ => Value::zero(width),
+        };
+        if width > 64 {
+            for (i, (value, unknown)) in self.value.iter().zip(&self.unknown).enumerate() {
+                v.splice_bits64(i * 64, *value, *unknown, 64);
+            }
+        }
+        v.is_signed = self.header.is_signed;
+        v.is_fill = self.header.is_fill;
+        v
     }
 
     /// The reference's planes with these words.

@@ -1,0 +1,54 @@
+//! Equality, case equality and wildcard equality. An operand is refused as in [`check_vector`](crate::value::check_vector), the left one first;
+//! a real whose planes are not empty is refused by 2. The shorter operand is extended by its top bit if both are signed, else by 0.
+use crate::reduce::{bit, of_operands};
+use crate::{raw, Header, LogicBit, Operand, Refusal};
+
+/// 0 if some place holds two different known bits, else x if an operand has an unknown bit, else 1; fills are stretched first. Beside a real a
+/// vector is the number of its low 64 bits, unknown ones taken as 0, and the two are compared as IEEE 754 does.
+pub fn is_equal(a: Operand, av: &[u64], au: &[u64], b: Operand, bv: &[u64], bu: &[u64]) -> Result<LogicBit, Refusal> {
+    of_operands(raw::vowherunga_is_equal, (a, av, au), (b, bv, bu))
+}
+
+#[inline(always)]
+fn of_vectors(
+    call: raw::BitOfVectors,
+    (a, av, au): (Header, &[u64], &[u64]),
+    (b, bv, bu): (Header, &[u64], &[u64]),
+) -> Result<LogicBit, Refusal> {
+    // A pointer and a length are those of one slice, which is lent for as long as the call runs.
+    bit(unsafe {
+        call(
+            a,
+            av.as_ptr(),
+            av.len(),
+            au.as_ptr(),
+            au.len(),
+            b,
+            bv.as_ptr(),
+            bv.len(),
+            bu.as_ptr(),
+            bu.len(),
+        )
+    })
+}
+
+/// 1 if the bits are the same, x and z too, else 0; fills are stretched first.
+pub fn case_eq(a: Header, av: &[u64], au: &[u64], b: Header, bv: &[u64], bu: &[u64]) -> Result<LogicBit, Refusal> {
+    of_vectors(raw::vowherunga_case_eq, (a, av, au), (b, bv, bu))
+}
+
+/// As [`case_eq`], but for places that hold z on either side.
+pub fn casez_eq(a: Header, av: &[u64], au: &[u64], b: Header, bv: &[u64], bu: &[u64]) -> Result<LogicBit, Refusal> {
+    of_vectors(raw::vowherunga_casez_eq, (a, av, au), (b, bv, bu))
+}
+
+/// As [`case_eq`], but for places that hold x or z on either side.
+pub fn casex_eq(a: Header, av: &[u64], au: &[u64], b: Header, bv: &[u64], bu: &[u64]) -> Result<LogicBit, Refusal> {
+    of_vectors(raw::vowherunga_casex_eq, (a, av, au), (b, bv, bu))
+}
+
+/// Of the places where the right side is known: 0 if one holds two different known bits, else x if the left side has an unknown bit there, else
+/// 1. A fill is not stretched.
+pub fn wildcard_eq(a: Header, av: &[u64], au: &[u64], b: Header, bv: &[u64], bu: &[u64]) -> Result<LogicBit, Refusal> {
+    of_vectors(raw::vowherunga_wildcard_eq, (a, av, au), (b, bv, bu))
+}

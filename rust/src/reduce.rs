@@ -1,0 +1,101 @@
+//! Reductions, truth and the logical operators. An operand is refused as in [`check_vector`](crate::value::check_vector), the left one first;
+//! a real whose planes are not empty is refused by 2. A fill counts as its own bits.
+use crate::{raw, Header, LogicBit, Operand, Refusal};
+
+/// Whether an operand is nonzero; unknown where its bits do not decide it.
+#[derive(Clone, Copy, Debug, PartialEq, Eq, Hash)]
+pub enum Truth {
+    False,
+    True,
+    Unknown,
+}
+
+impl Truth {
+    /// The truth that a bit stands for.
+    #[inline]
+    pub(crate) fn of_bit(bit: LogicBit) -> Truth {
+        match bit {
+            LogicBit::Zero => Truth::False,
+            LogicBit::One => Truth::True,
+            LogicBit::X | LogicBit::Z => Truth::Unknown,
+        }
+    }
+}
+
+impl From<Truth> for LogicBit {
+    /// 0, 1, or x where the truth is unknown.
+    fn from(truth: Truth) -> LogicBit {
+        match truth {
+            Truth::False => LogicBit::Zero,
+            Truth::True => LogicBit::One,
+            Truth::Unknown => LogicBit::X,
+        }
+    }
+}
+
+/// The bit of a call that answers one.
+pub(crate) fn bit(r: raw::BitResult) -> Result<LogicBit, Refusal> {
+    Refusal::of_call(r.refusal)?;
+    Ok(LogicBit::from_code(r.bit))
+}
+
+// In each call below a pointer and a length are those of one slice, which is lent for as long as the call runs.
+
+#[inline(always)]
+fn reduction(call: raw::BitOfOne, a: Header, value: &[u64], unknown: &[u64]) -> Result<LogicBit, Refusal> {
+    bit(unsafe { call(a, value.as_ptr(), value.len(), unknown.as_ptr(), unknown.len()) })
+}
+
+/// 0 on any known 0, else x on any unknown bit, else 1.
+pub fn reduce_and(a: Header, value: &[u64], unknown: &[u64]) -> Result<LogicBit, Refusal> {
+    reduction(raw::vowherunga_reduce_and, a, value, unknown)
+}
+
+/// 1 on any known 1, else x on any unknown bit, else 0.
+pub fn reduce_or(a: Header, value: &[u64], unknown: &[u64]) -> Result<LogicBit, Refusal> {
+    reduction(raw::vowherunga_reduce_or, a, value, unknown)
+}
+
+/// x on any unknown bit, else whether the number of ones is odd.
+pub fn reduce_xor(a: Header, value: &[u64], unknown: &[u64]) -> Result<LogicBit, Refusal> {
+    reduction(raw::vowherunga_reduce_xor, a, value, unknown)
+}
+
+/// True on a known 1, else unknown on an unknown bit, else false. A real is true if it is not equal to 0, so NaN is true.
+pub fn is_nonzero(a: Operand, value: &[u64], unknown: &[u64]) -> Result<Truth, Refusal> {
+    let answer = bit(unsafe { raw::vowherunga_is_nonzero(a.into(), value.as_ptr(), value.len(), unknown.as_ptr(), unknown.len()) })?;
+    Ok(Truth::of_bit(answer))
+}
+
+/// A call that answers a bit of two operands.
+#[inline(always)]
+pub(crate) fn of_operands(
+    call: raw::BitOfOperands,
+    (a, av, au): (Operand, &[u64], &[u64]),
+    (b, bv, bu): (Operand, &[u64], &[u64]),
+) -> Result<LogicBit, Refusal> {
+    bit(unsafe {
+        call(
+            a.into(),
+            av.as_ptr(),
+            av.len(),
+            au.as_ptr(),
+            au.len(),
+            b.into(),
+            bv.as_ptr(),
+            bv.len(),
+            bu.as_ptr(),
+            bu.len(),
+        )
+    })
+}
+
+/// 0 if either is false, 1 if both are true, else x.
+pub fn logic_and(a: Operand, av: &[u64], au: &[u64], b: Operand, bv: &[u64], bu: &[u64]) -> Result<LogicBit, Refusal> {
+    of_operands(raw::vowherunga_logic_and, (a, av, au), (b, bv, bu))
+}
+
+/// 1 if either is true, 0 if both are false, else x.
+pub fn logic_or(a: Operand, av: &[u64], au: &[u64], b: Operand, bv: &[u64], bu: &[u64]) -> Result<LogicBit, Refusal> {
+    of_operands(raw::vowherunga_logic_or, (a, av, au), (b, bv, bu))
+}

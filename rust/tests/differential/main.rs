@@ -1,0 +1,12 @@
+//! Every entry against the reference: the answer, the header, every word of both planes, and the words beside the planes. The inputs are
+//! fixed; nothing is timed.
+mod alike;
+mod bitwise;
+mod compare;
+mod constructors;
+#[path = "../lent/mod.rs"]
+mod lent;
+mod narrow;
+mod planes;
+mod reduce;
+mod samples;

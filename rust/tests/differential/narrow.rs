@@ -1,0 +1,77 @@
+//! Vectors of at most 64 bits held by value, against the reference's `Value`.
+use crate::alike::Tally;
+use crate::reduce::truth_bit;
+use crate::samples::{each_pair, each_vector, Sample};
+use vowherunga::reference::value::Value;
+use vowherunga::reference::Vector;
+use vowherunga::LogicBit::{One, Zero, X};
+use vowherunga::{LogicBit, Narrow, Word};
+
+/// A sample that is narrow.
+fn narrow(s: &Sample) -> Option<Narrow> {
+    match s.header().width {
+        0..=64 => Some(Narrow::new(s.header(), s.value[0], s.unknown[0]).unwrap()),
+        _ => None,
+    }
+}
+
+/// Header and bits are those of the reference's value.
+fn same(ours: Narrow, theirs: Value, of: impl Fn() -> String) {
+    let want = Vector::from(theirs);
+    let bits = Word {
+        value: want.value[0],
+        unknown: want.unknown[0],
+    };
+    assert_eq!((ours.header(), ours.bits()), (want.header, bits), "{}", of());
+}
+
+/// An operator of two gives what the reference gives, over each pair that is narrow.
+fn of_two(seed: u64, ours: fn(Narrow, Narrow) -> Narrow, theirs: fn(&Value, &Value) -> Value) {
+    let mut calls = 0;
+    each_pair(seed, |a, b| {
+        if let (Some(x), Some(y)) = (narrow(a), narrow(b)) {
+            same(ours(x, y), theirs(&a.reference, &b.reference), || format!("{a:?}, {b:?}"));
+            calls += 1;
+        }
+    });
+    assert!(calls > 130_000, "{calls} calls");
+}
+
+#[test]
+fn bitwise() {
+    of_two(30, Narrow::bitwise_and, Value::bitwise_and);
+    of_two(31, Narrow::bitwise_or, Value::bitwise_or);
+    of_two(32, Narrow::bitwise_xor, Value::bitwise_xor);
+    of_two(33, Narrow::merge_unknown, Value::merge_unknown);
+}
+
+#[test]
+fn bitwise_not() {
+    let mut calls = 0;
+    each_vector(34, |a| {
+        if let Some(x) = narrow(a) {
+            same(x.bitwise_not(), a.reference.bitwise_not(), || format!("{a:?}"));
+            calls += 1;
+        }
+    });
+    assert!(calls > 30_000, "{calls} calls");
+}
+
+/// An answer is the reference's, over each vector that is narrow.
+fn answer(seed: u64, ours: fn(Narrow) -> LogicBit, theirs: fn(&Value) -> Value) {
+    let mut tally = Tally::default();
+    each_vector(seed, |a| {
+        if let Some(x) = narrow(a) {
+            tally.compare(Ok(ours(x)), theirs(&a.reference), || format!("{a:?}"));
+        }
+    });
+    tally.expect(30_000, &[Zero, One, X]);
+}
+
+#[test]
+fn answers() {
+    answer(35, Narrow::reduce_and, Value::reduce_and);
+    answer(36, Narrow::reduce_or, Value::reduce_or);
+    answer(37, Narrow::reduce_xor, Value::reduce_xor);
+    answer(38, |x| x.is_nonzero().into(), |v| truth_bit(v.is_nonzero()));
+}
