@@ -1,28 +1,18 @@
-// The operators whose result is a vector: and, or, xor, merge and not into lent planes, and insert in place.
+// And, or, xor, merge and not, into lent planes.
 use extension::larger;
 use lanes::Bitwise;
-use refusal::Refusal;
 use refusal::Verdict;
 use value::Header;
 use value::VectorAnswer;
 use value::check_output;
 use value::check_pair;
 use value::check_vector;
-use words::Word;
 ghost use mathlib.Core.Path.{_≡_};
 ghost use Rattle.refusal.specs.Outcome.{outcome};
 ghost use Rattle.words.specs.Planes.{lent};
 ghost use Rattle.value.specs.Checks.{vectorAnswer};
 ghost use Rattle.lanes.specs.declared.Bitwise.the-variants.{And, Or, Xor, Merge};
-ghost use Rattle.bitwise.specs.Bitwise.{bitwise, bitwiseNot, resultHeader, insert, changeAnswer};
-
-pub mod inner;
-
-// Whether an insert changed a bit.
-pub enum ChangeAnswer {
-    Changed(bool),
-    Refused(Refusal),
-}
+ghost use Rattle.bitwise.specs.Bitwise.{bitwise, bitwiseNot, resultHeader};
 
 // The header of the operator's result.
 fn result_header(op: Bitwise, a: Header, b: Header) -> Header
@@ -47,7 +37,7 @@ fn result_header(op: Bitwise, a: Header, b: Header) -> Header
 }
 
 // The operator on two vectors of any widths, into planes of the larger width.
-fn join(
+fn join_vectors(
     op: Bitwise,
     a: Header,
     av: &[u64],
@@ -68,7 +58,7 @@ fn join(
             match check_output(width, ov, ou) {
                 Verdict::Refused(r) => VectorAnswer::Refused(r),
                 Verdict::Accepted => {
-                    inner::join_planes(op, a, av, au, b, bv, bu, width, ov, ou);
+                    join::inner::join_planes(op, a, av, au, b, bv, bu, width, ov, ou);
                     VectorAnswer::Vector(h)
                 }
             }
@@ -89,7 +79,7 @@ pub fn bitwise_and(
 ) -> VectorAnswer
     ensures { λ r. ⌜ outcome (vectorAnswer r) (lent (now (ov .exit)) (now (ou .exit))) ≡ bitwise And a (lent (now (av .entry)) (now (au .entry))) b (lent (now (bv .entry)) (now (bu .entry))) (lent (now (ov .entry)) (now (ou .entry))) ⌝ }
 {
-    join(Bitwise::And, a, av, au, b, bv, bu, ov, ou)
+    join_vectors(Bitwise::And, a, av, au, b, bv, bu, ov, ou)
 }
 
 // 1 at a place where either has 1, 0 where both have 0, else x.
@@ -105,7 +95,7 @@ pub fn bitwise_or(
 ) -> VectorAnswer
     ensures { λ r. ⌜ outcome (vectorAnswer r) (lent (now (ov .exit)) (now (ou .exit))) ≡ bitwise Or a (lent (now (av .entry)) (now (au .entry))) b (lent (now (bv .entry)) (now (bu .entry))) (lent (now (ov .entry)) (now (ou .entry))) ⌝ }
 {
-    join(Bitwise::Or, a, av, au, b, bv, bu, ov, ou)
+    join_vectors(Bitwise::Or, a, av, au, b, bv, bu, ov, ou)
 }
 
 // x at a place where either is unknown, else whether they differ.
@@ -121,7 +111,7 @@ pub fn bitwise_xor(
 ) -> VectorAnswer
     ensures { λ r. ⌜ outcome (vectorAnswer r) (lent (now (ov .exit)) (now (ou .exit))) ≡ bitwise Xor a (lent (now (av .entry)) (now (au .entry))) b (lent (now (bv .entry)) (now (bu .entry))) (lent (now (ov .entry)) (now (ou .entry))) ⌝ }
 {
-    join(Bitwise::Xor, a, av, au, b, bv, bu, ov, ou)
+    join_vectors(Bitwise::Xor, a, av, au, b, bv, bu, ov, ou)
 }
 
 // The bit at a place where both have it and know it, else x.
@@ -137,7 +127,7 @@ pub fn merge_unknown(
 ) -> VectorAnswer
     ensures { λ r. ⌜ outcome (vectorAnswer r) (lent (now (ov .exit)) (now (ou .exit))) ≡ bitwise Merge a (lent (now (av .entry)) (now (au .entry))) b (lent (now (bv .entry)) (now (bu .entry))) (lent (now (ov .entry)) (now (ou .entry))) ⌝ }
 {
-    join(Bitwise::Merge, a, av, au, b, bv, bu, ov, ou)
+    join_vectors(Bitwise::Merge, a, av, au, b, bv, bu, ov, ou)
 }
 
 // 0 and 1 exchanged; x and z give x.
@@ -156,7 +146,7 @@ pub fn bitwise_not(
         Verdict::Accepted => match check_output(width, ov, ou) {
             Verdict::Refused(r) => VectorAnswer::Refused(r),
             Verdict::Accepted => {
-                inner::not_planes(width, av, au, ov, ou);
+                join::inner::not_planes(width, av, au, ov, ou);
                 VectorAnswer::Vector(Header {
                     width: width,
                     is_signed: a.is_signed,
@@ -164,29 +154,5 @@ pub fn bitwise_not(
                 })
             }
         },
-    }
-}
-
-// Puts the lowest bits of a word in from `pos` on: the least of n, 64 and the width minus `pos` of them. Whether a bit changed.
-pub fn splice_bits64(
-    a: Header,
-    value: &mut [u64],
-    unknown: &mut [u64],
-    pos: usize,
-    bits: Word,
-    n: usize,
-) -> ChangeAnswer
-    ensures { λ r. ⌜ outcome (changeAnswer r) (lent (now (value .exit)) (now (unknown .exit))) ≡ insert a (lent (now (value .entry)) (now (unknown .entry))) pos bits n ⌝ }
-{
-    match check_vector(a, value, unknown) {
-        Verdict::Refused(r) => ChangeAnswer::Refused(r),
-        Verdict::Accepted => ChangeAnswer::Changed(inner::splice_bits64(
-            a.width,
-            value,
-            unknown,
-            pos,
-            bits,
-            n,
-        )),
     }
 }

@@ -1,6 +1,6 @@
 // The answers of the entries as numbers, for C and Rust. A refusal is its number, and 0 is done; a bit is its code, a word of both planes two
 // numbers; what a refused call leaves unsaid is 0.
-use bitwise::ChangeAnswer;
+use insert::ChangeAnswer;
 use planes::BitAnswer;
 use planes::WordAnswer;
 use reduce::TruthAnswer;
@@ -12,7 +12,7 @@ ghost use mathlib.Core.Path.{_≡_};
 ghost use Rattle.refusal.specs.Outcome.{verdict};
 ghost use Rattle.planes.specs.Entries.{bitAnswer, wordAnswer};
 ghost use Rattle.value.specs.Checks.{vectorAnswer};
-ghost use Rattle.bitwise.specs.Bitwise.{changeAnswer};
+ghost use Rattle.insert.specs.Insert.{changeAnswer};
 ghost use Rattle.reduce.specs.Reduce.{truthAnswer};
 ghost use Rattle.coded.specs.Coded.{codedDone, codedBit, codedWord, codedHeader, codedChange, codedTruth, operandOf};
 

@@ -7,7 +7,7 @@ ghost use Prim.Native.Nat.{min};
 ghost use Rattle.bit.specs.Rules.{code};
 ghost use Rattle.words.specs.Planes.{vectorOf, planesOf};
 ghost use Rattle.lanes.specs.declared.Bitwise.the-variants.{And, Or, Xor, Merge};
-ghost use Rattle.bitwise.specs.Bitwise.{joined, inverted};
+ghost use Rattle.join.specs.Joined.{joined, inverted};
 ghost use Rattle.reduce.specs.Reduce.{reduceAnd, reduceOr, reduceXor, truthOf, truthBit};
 ghost use Rattle.compare.specs.declared.Comparison.the-variants.{Equal, CaseEqual, CasezEqual, CasexEqual, WildcardEqual};
 ghost use Rattle.compare.specs.Compare.{compared};

@@ -8,7 +8,8 @@ use words::Word;
 ghost use mathlib.Core.Path.{_≡_};
 ghost use Rattle.words.specs.Planes.{lent};
 ghost use Rattle.lanes.specs.declared.Bitwise.the-variants.{And, Or, Xor, Merge};
-ghost use Rattle.bitwise.specs.Bitwise.{bitwise, bitwiseNot, insert};
+ghost use Rattle.bitwise.specs.Bitwise.{bitwise, bitwiseNot};
+ghost use Rattle.insert.specs.Insert.{insert};
 ghost use Rattle.real.specs.Round.{fromReal};
 ghost use Rattle.coded.specs.Coded.{codedHeader, codedChange, coded, codedOutcome};
 
@@ -94,7 +95,7 @@ pub extern "C" fn vowherunga_bitwise_not(
     header_result(bitwise::bitwise_not(a, av, au, ov, ou))
 }
 
-// `bitwise::splice_bits64`: 1 where a bit changed
+// `insert::splice_bits64`: 1 where a bit changed
 #[no_mangle]
 pub extern "C" fn vowherunga_splice_bits64(
     a: Header,
@@ -111,7 +112,7 @@ pub extern "C" fn vowherunga_splice_bits64(
         value: bits_value,
         unknown: bits_unknown,
     };
-    change_result(bitwise::splice_bits64(a, value, unknown, pos, bits, n))
+    change_result(insert::splice_bits64(a, value, unknown, pos, bits, n))
 }
 
 // `real::from_real_wrapped`

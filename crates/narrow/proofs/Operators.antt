@@ -27,7 +27,7 @@ use Rattle.lanes.specs.declared.Bitwise.{Bitwise}
 use Rattle.lanes.specs.declared.Bitwise.the-variants.{And, Or, Xor, Merge}
 use Rattle.lanes.specs.Lanes.{opBit, laneWord, laneOne, cutWord}
 use Rattle.lanes.proofs.Places as lanes
-use Rattle.bitwise.specs.Bitwise.{operator, joined, inverted}
+use Rattle.join.specs.Joined.{operator, joined, inverted}
 use Rattle.narrow.specs.Narrow.{single, plain64}
 use Rattle.narrow.proofs.Singles.{whole, at-most, placeOf, place, one-word}
 

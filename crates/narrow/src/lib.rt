@@ -11,7 +11,7 @@ ghost use mathlib.Core.Path.{_≡_};
 ghost use Prim.Native.Nat.{min};
 ghost use Rattle.words.specs.Planes.{vectorOf, planesOf};
 ghost use Rattle.reduce.specs.Reduce.{reduceAnd, reduceOr, reduceXor, truthOf};
-ghost use Rattle.bitwise.specs.Bitwise.{joined, inverted};
+ghost use Rattle.join.specs.Joined.{joined, inverted};
 ghost use Rattle.compare.specs.Compare.{compared};
 ghost use Rattle.narrow.specs.Narrow.{single, plain64};
 

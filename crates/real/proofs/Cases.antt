@@ -15,7 +15,7 @@ use Rattle.words.specs.Planes.{Planes, lent}
 use Rattle.value.specs.declared.Operand.the-variants.{Vector, Real}
 use Rattle.value.specs.Checks.{checkOutput}
 use Rattle.value.specs.Constructors.{plain}
-use Rattle.real.specs.Real.{vectorInteger, realOf, realTruth}
+use Rattle.real.specs.Real.{vectorInteger, realOf}
 use Rattle.real.specs.Round.{rounded, wrapped, realVector, fromReal}
 
 -- ---- real to width 4
@@ -77,12 +77,3 @@ signed-one = refl
 fill-one : realOf (Vector (record { width = 1; «is_signed» = true; «is_fill» = true })) (lent (1 ∷ []) (0 ∷ [])) ≡ fin false 1 (pos 64)
 unfolding ofInt round size span climb units odd trailingZeros vectorInteger tabulate pack
 fill-one = refl
-
--- NaN is true, and -0 is not
-truth-of-nan : realTruth nan ≡ true
-unfolding realTruth eq
-truth-of-nan = refl
-
-truth-of-minus-zero : realTruth (fin true 0 (pos 0)) ≡ false
-unfolding realTruth eq
-truth-of-minus-zero = refl

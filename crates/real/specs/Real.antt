@@ -1,12 +1,12 @@
--- The real that an operand counts as beside a real (document 01, "Real equality"), and when a real is true ("Answer bit").
-use mathlib.Core.Bool.{Bool, false, not, cond}
+-- The real that an operand counts as beside a real (document 01, "Real equality").
+use mathlib.Core.Bool.{Bool, false, cond}
 use mathlib.Core.List.{List}
 use Prim.Native.Nat.{ℕ, _-_, _^_, min, max}
 use lib.Dec.{leb}
 use lib.IntN.{ℤ, pos, subℕ}
 use lib.ListN.{length}
 use lib.Ieee as Ieee
-use lib.Ieee.{Float, fin, binary64}
+use lib.Ieee.{Float, binary64}
 use Rattle.bit.specs.declared.LogicBit.{LogicBit}
 use Rattle.bit.specs.declared.LogicBit.the-variants.{Zero, One, X, Z}
 use Rattle.words.specs.Vector.{tabulate, at, pack}
@@ -52,11 +52,3 @@ realOf (operand.Real x) p = x
 abbrev pub Whole : Operand → Planes → Type 0
 Whole (operand.Vector h) p = Plane (h .width) (p .value) × Plane (h .width) (p .unknown)
 Whole (operand.Real x) p = Unit
-
--- 0, which both zeros equal
-abbrev pub realZero : Float
-realZero = fin false 0 (pos 0)
-
--- a real is true if not equal to 0, so NaN is true
-unfoldable pub realTruth : Float → Bool
-realTruth x = not (Ieee.eq x realZero)

@@ -1,4 +1,4 @@
-// Reals: a real as a vector, and when a real is true. What a vector counts as beside a real stands in `inner`.
+// A real as a vector. What a vector counts as beside a real stands in `inner`.
 use planes::MAX_WIDTH;
 use refusal::Refusal;
 use refusal::Verdict;
@@ -16,7 +16,6 @@ ghost use lib.Ieee.{binary64};
 ghost use Rattle.refusal.specs.Outcome.{outcome};
 ghost use Rattle.words.specs.Planes.{wordCount, lent, planesOf};
 ghost use Rattle.value.specs.Checks.{vectorAnswer};
-ghost use Rattle.real.specs.Real.{realTruth};
 ghost use Rattle.real.specs.Round.{atHalf, wholeNear, scaled, rounded, realVector, fromReal};
 
 pub mod inner;
@@ -33,13 +32,6 @@ const ZERO: Scaled = Scaled {
     digits: 0,
     shift: 0,
 };
-
-// Whether a real is not equal to 0. A NaN is true.
-pub fn real_truth(x: f64) -> bool
-    ensures { λ r. ⌜ r ≡ realTruth x ⌝ }
-{
-    x != 0.0
-}
 
 // What a size halfway between q and q + 1 becomes.
 fn at_half(q: u64) -> u64

@@ -8,7 +8,7 @@ use Rattle.bit.specs.declared.LogicBit.{LogicBit}
 use Rattle.bit.specs.Rules.{ofCode, same}
 use Rattle.value.specs.Checks.{Vector}
 use Rattle.lanes.specs.declared.Bitwise.the-variants.{And, Or, Xor, Merge}
-use Rattle.bitwise.specs.Bitwise.{joined, inverted}
+use Rattle.join.specs.Joined.{joined, inverted}
 use Rattle.reduce.specs.Reduce.{reduceAnd, reduceOr, reduceXor}
 use Rattle.compare.specs.declared.Comparison.the-variants.{Equal, CaseEqual, CasezEqual, WildcardEqual}
 use Rattle.compare.specs.Compare.{compared}

@@ -1,0 +1,63 @@
+-- Two operands that are read by their extents, joined at the larger width.
+--     same-bits       the result over the extents is the result of the definition
+--     direct-word     word i of the result from word i of the planes, where both operands have it whole
+use mathlib.Core.Path.{_≡_, refl, sym, ap, ap₂, _∙_}
+use mathlib.Core.List.{List}
+use Prim.Native.Nat.{ℕ, _+_, _*_, _/_, _≤_, _<_, min, max}
+use native.Mathlib.Omega.{arith}
+use lib.ListN.{length, getD}
+use Rattle.bit.specs.declared.LogicBit.{LogicBit}
+use Rattle.words.specs.declared.Word.{Word}
+use Rattle.words.specs.Vector.{at, tabulate}
+use Rattle.words.specs.Planes.{valueDigit, unknownDigit, fromPlanes, wordOf, wordAt, lent}
+use Rattle.words.proofs.Extend.{wordBy}
+use Rattle.words.proofs.Fill.{Written}
+use Rattle.value.specs.declared.Header.{Header}
+use Rattle.extension.specs.declared.Extent.{Extent}
+use Rattle.extension.specs.declared.Operator.{Operator}
+use Rattle.value.specs.Checks.{vector}
+use Rattle.extension.specs.Extension.{operandAt, extentOf}
+use Rattle.extension.proofs.Extension.{extent-at, extent-narrow}
+use Rattle.lanes.specs.declared.Bitwise.{Bitwise}
+use Rattle.lanes.specs.Lanes.{opBit}
+use Rattle.join.specs.Joined.{operator, joined}
+use Rattle.join.specs.Joined.{joinedOver}
+use Rattle.lanes.specs.Lanes.{laneWord}
+use Rattle.lanes.proofs.Places.{direct, whole-word}
+
+module _ (op : Bitwise) (a b : Header) (av au bv bu : List ℕ) (t : Operator) (e : t ≡ operator op) (x y : Extent)
+    (hx : x ≡ extentOf t (vector a (lent av au)) b) (hy : y ≡ extentOf t (vector b (lent bv bu)) a) (w : ℕ) (hw : w ≡ max (a .width) (b .width)) where
+  pub left-narrow : x .width ≤ a .width
+  left-narrow = rw hx (extent-narrow t (vector a (lent av au)) b)
+
+  pub right-narrow : y .width ≤ b .width
+  right-narrow = rw hy (extent-narrow t (vector b (lent bv bu)) a)
+
+  pub same-bits : joinedOver op w x (lent av au) y (lent bv bu) ≡ joined op (vector a (lent av au)) (vector b (lent bv bu))
+  same-bits =
+      ap₂ (λ (x y : Extent). joinedOver op w x (lent av au) y (lent bv bu))
+      (hx ∙ ap (λ (t : Operator). extentOf t (vector a (lent av au)) b) e)
+      (hy ∙ ap (λ (t : Operator). extentOf t (vector b (lent bv bu)) a) e)
+      ∙ (λ k. tabulate w (λ i. opBit op (extent-at (operator op) a b av au i k) (extent-at (operator op) b a bv bu i k)))
+      ∙ ap
+      (λ (n : ℕ). tabulate n
+      (λ i. opBit op (operandAt (operator op) (vector a (lent av au)) b i) (operandAt (operator op) (vector b (lent bv bu)) a i))) hw
+
+  pub direct-word : (i : ℕ) → i < min (x .width) (y .width) / 64
+      → laneWord (opBit op) (wordBy (getD av i 0) (getD au i 0)) (wordBy (getD bv i 0) (getD bu i 0))
+      ≡ wordAt (at (joinedOver op w x (lent av au) y (lent bv bu))) i
+  direct-word i l =
+      whole-word (opBit op) (λ i. getD (fromPlanes (x .width) av au) i (x .beyond)) (λ i. getD (fromPlanes (y .width) bv bu) i (y .beyond)) w i
+      (wordBy (getD av i 0) (getD au i 0)) (wordBy (getD bv i 0) (getD bu i 0))
+      (direct (x .width) av au (x .beyond) i (omega arith))
+      (direct (y .width) bv bu (y .beyond) i (omega arith))
+      (omega (arith, left-narrow))
+
+  module _ (N n : ℕ) (out : List ℕ) (hn : n ≡ min (x .width) (y .width) / 64) where
+    pub value-written : Written (λ k. laneWord (opBit op) (wordBy (getD av k 0) (getD au k 0)) (wordBy (getD bv k 0) (getD bu k 0)) .value) N n out
+        → Written (wordOf valueDigit (at (joinedOver op w x (lent av au) y (lent bv bu)))) (length out) n out
+    value-written h = record { long = refl; upto = λ i l. h .upto i l ∙ ap (λ (z : Word). z .value) (direct-word i (rw hn at l)) }
+
+    pub unknown-written : Written (λ k. laneWord (opBit op) (wordBy (getD av k 0) (getD au k 0)) (wordBy (getD bv k 0) (getD bu k 0)) .unknown) N n out
+        → Written (wordOf unknownDigit (at (joinedOver op w x (lent av au) y (lent bv bu)))) (length out) n out
+    unknown-written h = record { long = refl; upto = λ i l. h .upto i l ∙ ap (λ (z : Word). z .unknown) (direct-word i (rw hn at l)) }

@@ -1,0 +1,162 @@
+// The work behind the operators: words joined by lanes, straight from the planes where both operands have whole words, and through the
+// reader of extended operands behind those. These ask their caller for accepted operands.
+use extension::Extent;
+use extension::Operator;
+use lanes::Bitwise;
+use lanes::cut_word;
+use lanes::lanes;
+use lanes::not_word;
+use lanes::rest_word;
+use value::Header;
+use words::Word;
+use words::inner::least;
+use words::inner::operand_word;
+ghost use mathlib.Core.Path.{_≡_};
+ghost use Prim.Native.Nat.{_≤_, max};
+ghost use lib.ListN.{length, getD};
+ghost use Rattle.words.specs.Vector.{at};
+ghost use Rattle.words.specs.Planes.{wordCount, fromPlanes, wordOf, valueDigit, unknownDigit, lent, planesOf, Plane};
+ghost use Rattle.words.proofs.Extend.{wordBy};
+ghost use Rattle.words.proofs.Fill.{Written};
+ghost use Rattle.value.specs.Checks.{vector};
+ghost use Rattle.lanes.specs.Lanes.{opBit, laneWord};
+ghost use Rattle.join.specs.Joined as joined;
+ghost use Rattle.join.specs.Joined.{joined, joinedOver, inverted};
+
+// The first n words, straight from the planes.
+fn join_whole(
+    op: Bitwise,
+    av: &[u64],
+    au: &[u64],
+    bv: &[u64],
+    bu: &[u64],
+    ov: &mut [u64],
+    ou: &mut [u64],
+    n: usize,
+)
+    requires { ⌜ (n ≤ length (now av)) × (n ≤ length (now au)) ⌝ }
+    requires { ⌜ (n ≤ length (now bv)) × (n ≤ length (now bu)) ⌝ }
+    requires { ⌜ (n ≤ length (now ov)) × (n ≤ length (now ou)) ⌝ }
+    ensures { λ _. ⌜ Written (λ k. laneWord (opBit op) (wordBy (getD (now (av .entry)) k 0) (getD (now (au .entry)) k 0)) (wordBy (getD (now (bv .entry)) k 0) (getD (now (bu .entry)) k 0)) .value) (length (now (ov .entry))) n (now (ov .exit)) ⌝ }
+    ensures { λ _. ⌜ Written (λ k. laneWord (opBit op) (wordBy (getD (now (av .entry)) k 0) (getD (now (au .entry)) k 0)) (wordBy (getD (now (bv .entry)) k 0) (getD (now (bu .entry)) k 0)) .unknown) (length (now (ou .entry))) n (now (ou .exit)) ⌝ }
+{
+    let mut k = 0;
+    while k < n {
+        let a = Word {
+            value: av[k],
+            unknown: au[k],
+        };
+        let b = Word {
+            value: bv[k],
+            unknown: bu[k],
+        };
+        let r = lanes(op, a, b);
+        ov[k] = r.value;
+        ou[k] = r.unknown;
+        k += 1;
+    }
+}
+
+// The words from `from` on, through the reader of extended operands.
+fn join_rest(
+    op: Bitwise,
+    a: Extent,
+    av: &[u64],
+    au: &[u64],
+    b: Extent,
+    bv: &[u64],
+    bu: &[u64],
+    width: u32,
+    ov: &mut [u64],
+    ou: &mut [u64],
+    from: usize,
+)
+    requires { ⌜ (wordCount (a .width) ≤ length (now av)) × (wordCount (a .width) ≤ length (now au)) ⌝ }
+    requires { ⌜ (wordCount (b .width) ≤ length (now bv)) × (wordCount (b .width) ≤ length (now bu)) ⌝ }
+    requires { ⌜ (length (now ov) ≡ wordCount width) × (length (now ou) ≡ wordCount width) ⌝ }
+    requires { ⌜ Written (wordOf valueDigit (at (joinedOver op width a (lent (now av) (now au)) b (lent (now bv) (now bu))))) (length (now ov)) from (now ov) ⌝ }
+    requires { ⌜ Written (wordOf unknownDigit (at (joinedOver op width a (lent (now av) (now au)) b (lent (now bv) (now bu))))) (length (now ou)) from (now ou) ⌝ }
+    ensures { λ _. ⌜ lent (now (ov .exit)) (now (ou .exit)) ≡ planesOf (joinedOver op width a (lent (now (av .entry)) (now (au .entry))) b (lent (now (bv .entry)) (now (bu .entry)))) ⌝ }
+{
+    let aw = a.width;
+    let ab = a.beyond;
+    let bw = b.width;
+    let bb = b.beyond;
+    let mut k = from;
+    while k < ov.len() {
+        let x = operand_word(av, au, aw, k, ab);
+        let y = operand_word(bv, bu, bw, k, bb);
+        let r = rest_word(op, x, y, width, k);
+        ov[k] = r.value;
+        ou[k] = r.unknown;
+        k += 1;
+    }
+}
+
+// The row of the tables by which the operands are read.
+fn operator(op: Bitwise) -> Operator
+    ensures { λ r. ⌜ r ≡ joined.operator op ⌝ }
+{
+    match op {
+        Bitwise::And => Operator::And,
+        Bitwise::Or => Operator::Or,
+        Bitwise::Xor => Operator::Xor,
+        Bitwise::Merge => Operator::Merge,
+    }
+}
+
+// The operator on two accepted operands.
+pub fn join_planes(
+    op: Bitwise,
+    a: Header,
+    av: &[u64],
+    au: &[u64],
+    b: Header,
+    bv: &[u64],
+    bu: &[u64],
+    width: u32,
+    ov: &mut [u64],
+    ou: &mut [u64],
+)
+    requires { ⌜ Plane (a .width) (now av) × Plane (a .width) (now au) ⌝ }
+    requires { ⌜ Plane (b .width) (now bv) × Plane (b .width) (now bu) ⌝ }
+    requires { ⌜ width ≡ max (a .width) (b .width) ⌝ }
+    requires { ⌜ (length (now ov) ≡ wordCount width) × (length (now ou) ≡ wordCount width) ⌝ }
+    ensures { λ _. ⌜ lent (now (ov .exit)) (now (ou .exit)) ≡ planesOf (joined op (vector a (lent (now (av .entry)) (now (au .entry)))) (vector b (lent (now (bv .entry)) (now (bu .entry))))) ⌝ }
+{
+    let t = operator(op);
+    let x = extension::inner::extent(t, a, av, au, b);
+    let y = extension::inner::extent(t, b, bv, bu, a);
+    let xw = x.width as usize;
+    let yw = y.width as usize;
+    let n = least(xw, yw) / 64;
+    join_whole(op, av, au, bv, bu, ov, ou, n);
+    join_rest(op, x, av, au, y, bv, bu, width, ov, ou, n);
+}
+
+// Not of a vector: every word, and the last one cut off at the width.
+pub fn not_planes(width: u32, av: &[u64], au: &[u64], ov: &mut [u64], ou: &mut [u64])
+    requires { ⌜ Plane width (now av) × Plane width (now au) ⌝ }
+    requires { ⌜ (length (now ov) ≡ wordCount width) × (length (now ou) ≡ wordCount width) ⌝ }
+    ensures { λ _. ⌜ lent (now (ov .exit)) (now (ou .exit)) ≡ planesOf (inverted (fromPlanes width (now (av .entry)) (now (au .entry)))) ⌝ }
+{
+    let last = ov.len() - 1;
+    let mut k = 0;
+    while k < last {
+        let a = Word {
+            value: av[k],
+            unknown: au[k],
+        };
+        let r = not_word(a);
+        ov[k] = r.value;
+        ou[k] = r.unknown;
+        k += 1;
+    }
+    let a = Word {
+        value: av[last],
+        unknown: au[last],
+    };
+    let r = cut_word(width, last, not_word(a));
+    ov[last] = r.value;
+    ou[last] = r.unknown;
+}

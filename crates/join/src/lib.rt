@@ -1,0 +1,2 @@
+// Two vectors joined place by place, and not of one, into lent planes.
+pub mod inner;
