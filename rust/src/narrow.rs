@@ -1,5 +1,5 @@
 //! Vectors of at most 64 bits, held by value.
-use crate::{bitwise, raw, value, Header, LogicBit, Refusal, Truth, Word};
+use crate::{bitwise, compare, raw, value, Header, LogicBit, Operand, Refusal, Truth, Word};
 
 /// A vector of at most 64 bits: its header and a word of each plane, checked once when it is made. No call on it is refused, and each answers
 /// as the function of the same name does on planes of one word.
@@ -12,6 +12,9 @@ pub struct Narrow {
 /// An operator of two vectors over planes.
 type OfPlanes = fn(Header, &[u64], &[u64], Header, &[u64], &[u64], &mut [u64], &mut [u64]) -> Result<Header, Refusal>;
 
+/// A comparison of two vectors over planes.
+type ComparesPlanes = fn(Header, &[u64], &[u64], Header, &[u64], &[u64]) -> Result<LogicBit, Refusal>;
+
 /// The result's bits.
 #[cold]
 fn by_planes_of_one_word(call: OfPlanes, (a, x): (Header, Word), (b, y): (Header, Word)) -> Word {
@@ -22,6 +25,12 @@ fn by_planes_of_one_word(call: OfPlanes, (a, x): (Header, Word), (b, y): (Header
         value: value[0],
         unknown: unknown[0],
     }
+}
+
+#[cold]
+fn compare_planes_of_one_word(call: ComparesPlanes, (a, x): (Header, Word), (b, y): (Header, Word)) -> LogicBit {
+    let answer = call(a, &[x.value], &[x.unknown], b, &[y.value], &[y.unknown]);
+    answer.unwrap_or_else(|r| unreachable!("checked vectors are {r}"))
 }
 
 impl Narrow {
@@ -132,5 +141,61 @@ impl Narrow {
     #[inline]
     pub fn is_nonzero(self) -> Truth {
         Truth::of_bit(LogicBit::from_code(unsafe { raw::vowherunga_truth_word(self.bits) }))
+    }
+
+    /// Whether the shorter one is extended by its top bit.
+    #[inline(always)]
+    fn extends_sign(self, other: Narrow) -> bool {
+        let (a, b) = (self.header, other.header);
+        a.is_signed && b.is_signed && a.width != b.width
+    }
+
+    /// A comparison by its word form, which extends by 0 and stretches no fill, or else through planes of one word.
+    #[inline(always)]
+    fn compare(self, other: Narrow, is_plain: bool, by_word: raw::CodeOfTwo, by_planes: ComparesPlanes) -> LogicBit {
+        match is_plain {
+            true => LogicBit::from_code(unsafe { by_word(self.bits, other.bits) }),
+            false => compare_planes_of_one_word(by_planes, (self.header, self.bits), (other.header, other.bits)),
+        }
+    }
+
+    /// A comparison that stretches fills.
+    #[inline(always)]
+    fn compare_stretched(self, other: Narrow, by_word: raw::CodeOfTwo, by_planes: ComparesPlanes) -> LogicBit {
+        let has_fill = self.header.is_fill || other.header.is_fill;
+        self.compare(other, !has_fill && !self.extends_sign(other), by_word, by_planes)
+    }
+
+    /// [`compare::is_equal`]
+    #[inline]
+    pub fn is_equal(self, other: Narrow) -> LogicBit {
+        self.compare_stretched(other, raw::vowherunga_is_equal_word, |a, av, au, b, bv, bu| {
+            compare::is_equal(Operand::Vector(a), av, au, Operand::Vector(b), bv, bu)
+        })
+    }
+
+    /// [`compare::case_eq`]
+    #[inline]
+    pub fn case_eq(self, other: Narrow) -> LogicBit {
+        self.compare_stretched(other, raw::vowherunga_case_eq_word, compare::case_eq)
+    }
+
+    /// [`compare::casez_eq`]
+    #[inline]
+    pub fn casez_eq(self, other: Narrow) -> LogicBit {
+        self.compare_stretched(other, raw::vowherunga_casez_eq_word, compare::casez_eq)
+    }
+
+    /// [`compare::casex_eq`]
+    #[inline]
+    pub fn casex_eq(self, other: Narrow) -> LogicBit {
+        self.compare_stretched(other, raw::vowherunga_casex_eq_word, compare::casex_eq)
+    }
+
+    /// [`compare::wildcard_eq`]
+    #[inline]
+    pub fn wildcard_eq(self, other: Narrow) -> LogicBit {
+        let is_plain = !self.extends_sign(other);
+        self.compare(other, is_plain, raw::vowherunga_wildcard_eq_word, compare::wildcard_eq)
     }
 }

@@ -193,3 +193,8 @@ extern "C" {
 
     pub fn vowherunga_truth_word(a: Word) -> u8;
 }
+
+alike! {
+    CodeOfTwo: vowherunga_is_equal_word, vowherunga_case_eq_word, vowherunga_casez_eq_word, vowherunga_casex_eq_word,
+    vowherunga_wildcard_eq_word: (a: Word, b: Word) -> u8
+}

@@ -75,3 +75,23 @@ fn answers() {
     answer(37, Narrow::reduce_xor, Value::reduce_xor);
     answer(38, |x| x.is_nonzero().into(), |v| truth_bit(v.is_nonzero()));
 }
+
+/// A comparison answers as the reference does, over each pair that is narrow.
+fn comparison(seed: u64, ours: fn(Narrow, Narrow) -> LogicBit, theirs: fn(&Value, &Value) -> Value, answers: &[LogicBit]) {
+    let mut tally = Tally::default();
+    each_pair(seed, |a, b| {
+        if let (Some(x), Some(y)) = (narrow(a), narrow(b)) {
+            tally.compare(Ok(ours(x, y)), theirs(&a.reference, &b.reference), || format!("{a:?}, {b:?}"));
+        }
+    });
+    tally.expect(130_000, answers);
+}
+
+#[test]
+fn comparisons() {
+    comparison(45, Narrow::is_equal, Value::is_equal, &[Zero, One, X]);
+    comparison(46, Narrow::case_eq, Value::case_eq, &[Zero, One]);
+    comparison(47, Narrow::casez_eq, Value::casez_eq, &[Zero, One]);
+    comparison(48, Narrow::casex_eq, Value::casex_eq, &[Zero, One]);
+    comparison(49, Narrow::wildcard_eq, Value::wildcard_eq, &[Zero, One, X]);
+}

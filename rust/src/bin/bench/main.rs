@@ -107,12 +107,16 @@ impl Rows {
         op: &'static str,
         theirs: impl Fn(&Value, &Value) -> Value + Copy + 'static,
         ours: impl Fn(&Input, &Input) -> Result<LogicBit, Refusal> + Copy + 'static,
+        by_value: impl Fn(Narrow, Narrow) -> LogicBit + Copy + 'static,
     ) {
         self.add(op, |rng, width, mixed| {
             let seed = rng.next();
             let [a, b] = [(), ()].map(|()| Input::random(&mut Rng::new(seed), width, mixed));
             let reference = side(move || theirs(black_box(a.reference), black_box(b.reference)));
-            (reference, side(move || ours(black_box(&a), black_box(&b)).unwrap()), None)
+            let lent = side(move || ours(black_box(&a), black_box(&b)).unwrap());
+            let narrow = a.narrow().zip(b.narrow());
+            let word = narrow.map(|(x, y)| side(move || by_value(black_box(x), black_box(y))));
+            (reference, lent, word)
         });
     }
 
@@ -198,16 +202,15 @@ fn rows() -> Rows {
     rows.of_two("xor", Value::bitwise_xor, bitwise::bitwise_xor, Narrow::bitwise_xor);
     rows.of_two("merge", Value::merge_unknown, bitwise::merge_unknown, Narrow::merge_unknown);
     rows.not();
-    rows.comparison("equal", Value::is_equal, |a, b| {
+    let equal = |a: &Input, b: &Input| {
         let [x, y] = [a, b].map(|input| Operand::Vector(input.header));
         compare::is_equal(x, a.value, a.unknown, y, b.value, b.unknown)
-    });
-    rows.comparison("case", Value::case_eq, |a, b| {
-        compare::case_eq(a.header, a.value, a.unknown, b.header, b.value, b.unknown)
-    });
-    rows.comparison("wildcard", Value::wildcard_eq, |a, b| {
-        compare::wildcard_eq(a.header, a.value, a.unknown, b.header, b.value, b.unknown)
-    });
+    };
+    let case = |a: &Input, b: &Input| compare::case_eq(a.header, a.value, a.unknown, b.header, b.value, b.unknown);
+    let wildcard = |a: &Input, b: &Input| compare::wildcard_eq(a.header, a.value, a.unknown, b.header, b.value, b.unknown);
+    rows.comparison("equal", Value::is_equal, equal, Narrow::is_equal);
+    rows.comparison("case", Value::case_eq, case, Narrow::case_eq);
+    rows.comparison("wildcard", Value::wildcard_eq, wildcard, Narrow::wildcard_eq);
     let ones = |rng: &mut Rng, width, mixed| Input::repeated(rng, width, u64::MAX, mixed);
     let zeros = |rng: &mut Rng, width, mixed| Input::repeated(rng, width, 0, mixed);
     rows.reduction("reduce and", ones, Value::reduce_and, reduce::reduce_and, Narrow::reduce_and);
