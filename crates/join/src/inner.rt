@@ -23,8 +23,8 @@ ghost use Rattle.lanes.specs.Lanes.{opBit, laneWord};
 ghost use Rattle.join.specs.Joined as joined;
 ghost use Rattle.join.specs.Joined.{joined, joinedOver, inverted};
 
-// The first n words, straight from the planes.
-fn join_whole(
+// One operator on the first n words.
+fn join_words(
     op: Bitwise,
     av: &[u64],
     au: &[u64],
@@ -54,6 +54,31 @@ fn join_whole(
         ov[k] = r.value;
         ou[k] = r.unknown;
         k += 1;
+    }
+}
+
+// The first n words, straight from the planes. Each operator has its call, so that its loop is compiled on its own.
+fn join_whole(
+    op: Bitwise,
+    av: &[u64],
+    au: &[u64],
+    bv: &[u64],
+    bu: &[u64],
+    ov: &mut [u64],
+    ou: &mut [u64],
+    n: usize,
+)
+    requires { ⌜ (n ≤ length (now av)) × (n ≤ length (now au)) ⌝ }
+    requires { ⌜ (n ≤ length (now bv)) × (n ≤ length (now bu)) ⌝ }
+    requires { ⌜ (n ≤ length (now ov)) × (n ≤ length (now ou)) ⌝ }
+    ensures { λ _. ⌜ Written (λ k. laneWord (opBit op) (wordBy (getD (now (av .entry)) k 0) (getD (now (au .entry)) k 0)) (wordBy (getD (now (bv .entry)) k 0) (getD (now (bu .entry)) k 0)) .value) (length (now (ov .entry))) n (now (ov .exit)) ⌝ }
+    ensures { λ _. ⌜ Written (λ k. laneWord (opBit op) (wordBy (getD (now (av .entry)) k 0) (getD (now (au .entry)) k 0)) (wordBy (getD (now (bv .entry)) k 0) (getD (now (bu .entry)) k 0)) .unknown) (length (now (ou .entry))) n (now (ou .exit)) ⌝ }
+{
+    match op {
+        Bitwise::And => join_words(Bitwise::And, av, au, bv, bu, ov, ou, n),
+        Bitwise::Or => join_words(Bitwise::Or, av, au, bv, bu, ov, ou, n),
+        Bitwise::Xor => join_words(Bitwise::Xor, av, au, bv, bu, ov, ou, n),
+        Bitwise::Merge => join_words(Bitwise::Merge, av, au, bv, bu, ov, ou, n),
     }
 }
 

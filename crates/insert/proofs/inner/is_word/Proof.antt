@@ -1,4 +1,4 @@
--- `bitwise::inner::is_word`: by the first test.
+-- `insert::inner::is_word`: by the first test.
 use borrow.Author.Tests.{eq-eqb, ne-eqb}
 use Rattle.insert.proofs.inner.is_word.Statement.{statement}
 use Rattle.insert.proofs.inner.is_word.Tie as tie

@@ -1,4 +1,4 @@
--- `bitwise::inner::join_planes`: whole words straight from the planes, then the rest.
+-- `join::inner::join_planes`: whole words straight from the planes, then the rest.
 use Rattle.join.proofs.Operands.{left-narrow, right-narrow, same-bits, value-written, unknown-written}
 use mathlib.Core.Path.{_≡_, refl, sym, ap, _∙_}
 use Prim.Native.Nat.{ℕ, _<_, _≤_, _/_, min}

@@ -1,4 +1,4 @@
--- `bitwise::inner::join_rest`: the words below k are those of the result.
+-- `join::inner::join_rest`: the words below k are those of the result.
 use Rattle.extension.proofs.Extension.{extentOver}
 use mathlib.Core.Path.{_≡_, refl, sym, ap, ap₂, _∙_}
 use mathlib.Core.List.{List}

@@ -1,124 +1,97 @@
--- `bitwise::inner::join_whole`: the words below k are the lanes of the operands' words.
-use Rattle.lanes.proofs.Places.{fewer}
-use mathlib.Core.Path.{_≡_, refl, ap}
-use mathlib.Core.List.{List}
-use Prim.Native.Nat.{ℕ, _≤_, _-_}
-use native.Mathlib.Omega.{arith}
-use lib.ListN.{length, getD}
-use Rattle.words.specs.declared.Word.{Word}
-use Rattle.words.proofs.Extend.{wordBy}
-use Rattle.words.proofs.Fill.{Written, start, more}
-use Rattle.lanes.specs.declared.Bitwise.{Bitwise}
-use Rattle.lanes.specs.Lanes.{opBit}
-use Rattle.lanes.specs.Lanes.{laneWord}
+-- `join::inner::join_whole`: by the operator.
 use borrow.Author.Needs.{needs}
 use Rattle.join.proofs.inner.join_whole.Statement.{statement}
 use Rattle.join.proofs.inner.join_whole.Tie as tie
 
--- word k of the result
-abbrev joins : Bitwise → List ℕ → List ℕ → List ℕ → List ℕ → ℕ → Word
-joins op av au bv bu k = laneWord (opBit op) (wordBy (getD av k 0) (getD au k 0)) (wordBy (getD bv k 0) (getD bu k 0))
+enum-told : tie.Need-enum-told
+enum-told c = search needs
 
-abbrev Inv-loop : tie.InvT-loop
-Inv-loop op av au bv bu ov₀ ou₀ n k₀ ov ou k =
-    (k ≤ n)
-    × Written (λ i. joins op av au bv bu i .value) (length ov₀) k ov
-    × Written (λ i. joins op av au bv bu i .unknown) (length ou₀) k ou
+join-words-requires : tie.Need-join-words-requires
+join-words-requires c κs = search needs
 
-abbrev μ-loop : tie.MeasureT-loop
-μ-loop op av au bv bu ov₀ ou₀ n k₀ ov ou k = n - k
+enum-told-2 : tie.Need-enum-told-2
+enum-told-2 c = search needs
 
-loop-holds : tie.Need-loop-holds Inv-loop μ-loop
-loop-holds c = (omega arith, start _ _ _ refl, start _ _ _ refl)
+join-words-requires-2 : tie.Need-join-words-requires-2
+join-words-requires-2 c κs = search needs
 
-mul-t14 : tie.Need-mul-t14 Inv-loop μ-loop
-mul-t14 c = search needs
+enum-told-3 : tie.Need-enum-told-3
+enum-told-3 c = search needs
 
-shared-slice-read-t16 : tie.Need-shared-slice-read-t16 Inv-loop μ-loop
-shared-slice-read-t16 c = search needs
+join-words-requires-3 : tie.Need-join-words-requires-3
+join-words-requires-3 c κs = search needs
 
-mul-t17 : tie.Need-mul-t17 Inv-loop μ-loop
-mul-t17 c = search needs
+enum-told-4 : tie.Need-enum-told-4
+enum-told-4 c = search needs
 
-shared-slice-read-t19 : tie.Need-shared-slice-read-t19 Inv-loop μ-loop
-shared-slice-read-t19 c = search needs
+join-words-requires-4 : tie.Need-join-words-requires-4
+join-words-requires-4 c κs = search needs
 
-mul-t14-2 : tie.Need-mul-t14-2 Inv-loop μ-loop
-mul-t14-2 c = search needs
-
-shared-slice-read-t19-2 : tie.Need-shared-slice-read-t19-2 Inv-loop μ-loop
-shared-slice-read-t19-2 c = search needs
-
-mul-t17-2 : tie.Need-mul-t17-2 Inv-loop μ-loop
-mul-t17-2 c = search needs
-
-shared-slice-read-t16-2 : tie.Need-shared-slice-read-t16-2 Inv-loop μ-loop
-shared-slice-read-t16-2 c = search needs
-
-lanes-requires : tie.Need-lanes-requires Inv-loop μ-loop
-lanes-requires c κs = search needs
-
-mul-ov : tie.Need-mul-ov Inv-loop μ-loop
-mul-ov c = search needs
-
-slice-write-ov : tie.Need-slice-write-ov Inv-loop μ-loop
-slice-write-ov c = search needs
-
-mul-ou : tie.Need-mul-ou Inv-loop μ-loop
-mul-ou c = search needs
-
-slice-write-ou : tie.Need-slice-write-ou Inv-loop μ-loop
-slice-write-ou c = search needs
-
-add-k : tie.Need-add-k Inv-loop μ-loop
-add-k c = search needs
-
-loop-less : tie.Need-loop-less Inv-loop μ-loop
-loop-less c = search needs
-
-loop-again : tie.Need-loop-again Inv-loop μ-loop
-loop-again c =
-    let l = c .before .before .before .before .before .before in
-    let s = l .before .before .before .before .before .before .before in (
-      omega arith,
-      more _ _ _ _ _ (l .loop .inv .1) (omega (arith, s .pre)) (ap (λ (w : Word). w .value) (c .lanes .ensures)),
-      more _ _ _ _ _ (l .loop .inv .2) (omega (arith, s .pre)) (ap (λ (w : Word). w .unknown) (c .lanes .ensures)),
-    )
-
-same-length : tie.Need-same-length Inv-loop μ-loop
+same-length : tie.Need-same-length
 same-length c = search needs
 
-same-length-2 : tie.Need-same-length-2 Inv-loop μ-loop
+same-length-2 : tie.Need-same-length-2
 same-length-2 c = search needs
 
-returns : tie.Need-returns Inv-loop μ-loop
+returns : tie.Need-returns
 returns c =
-    let l = c .before in
-    (fewer (l .loop .inv .1) _ (omega arith) (λ i _. refl), fewer (l .loop .inv .2) _ (omega arith) (λ i _. refl))
+    let t = c .before .before .before .before in
+    rw (t .before .before .before .enum-told .given .1) (t .join-words .ensures)
+
+same-length-3 : tie.Need-same-length-3
+same-length-3 c = search needs
+
+same-length-4 : tie.Need-same-length-4
+same-length-4 c = search needs
+
+returns-2 : tie.Need-returns-2
+returns-2 c =
+    let t = c .before .before .before .before in
+    rw (t .before .before .before .enum-told2 .given .1) (t .join-words2 .ensures)
+
+same-length-5 : tie.Need-same-length-5
+same-length-5 c = search needs
+
+same-length-6 : tie.Need-same-length-6
+same-length-6 c = search needs
+
+returns-3 : tie.Need-returns-3
+returns-3 c =
+    let t = c .before .before .before .before in
+    rw (t .before .before .before .enum-told3 .given .1) (t .join-words3 .ensures)
+
+same-length-7 : tie.Need-same-length-7
+same-length-7 c = search needs
+
+same-length-8 : tie.Need-same-length-8
+same-length-8 c = search needs
+
+returns-4 : tie.Need-returns-4
+returns-4 c =
+    let t = c .before .before .before .before in
+    rw (t .before .before .before .enum-told4 .given .1) (t .join-words4 .ensures)
 
 pub join-whole-spec : {M : Type 1} → statement M
 join-whole-spec =
     tie.close
     (tie.spec
-    Inv-loop
-    μ-loop
-    loop-holds
-    mul-t14
-    shared-slice-read-t16
-    mul-t17
-    shared-slice-read-t19
-    mul-t14-2
-    shared-slice-read-t19-2
-    mul-t17-2
-    shared-slice-read-t16-2
-    lanes-requires
-    mul-ov
-    slice-write-ov
-    mul-ou
-    slice-write-ou
-    add-k
-    loop-less
-    loop-again
+    enum-told
+    join-words-requires
+    enum-told-2
+    join-words-requires-2
+    enum-told-3
+    join-words-requires-3
+    enum-told-4
+    join-words-requires-4
     same-length
     same-length-2
-    returns)
+    returns
+    same-length-3
+    same-length-4
+    returns-2
+    same-length-5
+    same-length-6
+    returns-3
+    same-length-7
+    same-length-8
+    returns-4)

@@ -1,4 +1,4 @@
--- `bitwise::inner::not_planes`: the words below k are those of the result; the last one is cut off at the width.
+-- `join::inner::not_planes`: the words below k are those of the result; the last one is cut off at the width.
 use mathlib.Core.Path.{_≡_, refl, sym, ap, ap₂, _∙_}
 use mathlib.Core.List.{List}
 use Prim.Native.Nat.{ℕ, _+_, _≤_, _<_, _-_}

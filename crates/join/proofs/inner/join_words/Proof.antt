@@ -1,0 +1,124 @@
+-- `join::inner::join_words`: the words below k are the lanes of the operands' words.
+use Rattle.lanes.proofs.Places.{fewer}
+use mathlib.Core.Path.{_≡_, refl, ap}
+use mathlib.Core.List.{List}
+use Prim.Native.Nat.{ℕ, _≤_, _-_}
+use native.Mathlib.Omega.{arith}
+use lib.ListN.{length, getD}
+use Rattle.words.specs.declared.Word.{Word}
+use Rattle.words.proofs.Extend.{wordBy}
+use Rattle.words.proofs.Fill.{Written, start, more}
+use Rattle.lanes.specs.declared.Bitwise.{Bitwise}
+use Rattle.lanes.specs.Lanes.{opBit}
+use Rattle.lanes.specs.Lanes.{laneWord}
+use borrow.Author.Needs.{needs}
+use Rattle.join.proofs.inner.join_words.Statement.{statement}
+use Rattle.join.proofs.inner.join_words.Tie as tie
+
+-- word k of the result
+abbrev joins : Bitwise → List ℕ → List ℕ → List ℕ → List ℕ → ℕ → Word
+joins op av au bv bu k = laneWord (opBit op) (wordBy (getD av k 0) (getD au k 0)) (wordBy (getD bv k 0) (getD bu k 0))
+
+abbrev Inv-loop : tie.InvT-loop
+Inv-loop op av au bv bu ov₀ ou₀ n k₀ ov ou k =
+    (k ≤ n)
+    × Written (λ i. joins op av au bv bu i .value) (length ov₀) k ov
+    × Written (λ i. joins op av au bv bu i .unknown) (length ou₀) k ou
+
+abbrev μ-loop : tie.MeasureT-loop
+μ-loop op av au bv bu ov₀ ou₀ n k₀ ov ou k = n - k
+
+loop-holds : tie.Need-loop-holds Inv-loop μ-loop
+loop-holds c = (omega arith, start _ _ _ refl, start _ _ _ refl)
+
+mul-t14 : tie.Need-mul-t14 Inv-loop μ-loop
+mul-t14 c = search needs
+
+shared-slice-read-t16 : tie.Need-shared-slice-read-t16 Inv-loop μ-loop
+shared-slice-read-t16 c = search needs
+
+mul-t17 : tie.Need-mul-t17 Inv-loop μ-loop
+mul-t17 c = search needs
+
+shared-slice-read-t19 : tie.Need-shared-slice-read-t19 Inv-loop μ-loop
+shared-slice-read-t19 c = search needs
+
+mul-t14-2 : tie.Need-mul-t14-2 Inv-loop μ-loop
+mul-t14-2 c = search needs
+
+shared-slice-read-t19-2 : tie.Need-shared-slice-read-t19-2 Inv-loop μ-loop
+shared-slice-read-t19-2 c = search needs
+
+mul-t17-2 : tie.Need-mul-t17-2 Inv-loop μ-loop
+mul-t17-2 c = search needs
+
+shared-slice-read-t16-2 : tie.Need-shared-slice-read-t16-2 Inv-loop μ-loop
+shared-slice-read-t16-2 c = search needs
+
+lanes-requires : tie.Need-lanes-requires Inv-loop μ-loop
+lanes-requires c κs = search needs
+
+mul-ov : tie.Need-mul-ov Inv-loop μ-loop
+mul-ov c = search needs
+
+slice-write-ov : tie.Need-slice-write-ov Inv-loop μ-loop
+slice-write-ov c = search needs
+
+mul-ou : tie.Need-mul-ou Inv-loop μ-loop
+mul-ou c = search needs
+
+slice-write-ou : tie.Need-slice-write-ou Inv-loop μ-loop
+slice-write-ou c = search needs
+
+add-k : tie.Need-add-k Inv-loop μ-loop
+add-k c = search needs
+
+loop-less : tie.Need-loop-less Inv-loop μ-loop
+loop-less c = search needs
+
+loop-again : tie.Need-loop-again Inv-loop μ-loop
+loop-again c =
+    let l = c .before .before .before .before .before .before in
+    let s = l .before .before .before .before .before .before .before in (
+      omega arith,
+      more _ _ _ _ _ (l .loop .inv .1) (omega (arith, s .pre)) (ap (λ (w : Word). w .value) (c .lanes .ensures)),
+      more _ _ _ _ _ (l .loop .inv .2) (omega (arith, s .pre)) (ap (λ (w : Word). w .unknown) (c .lanes .ensures)),
+    )
+
+same-length : tie.Need-same-length Inv-loop μ-loop
+same-length c = search needs
+
+same-length-2 : tie.Need-same-length-2 Inv-loop μ-loop
+same-length-2 c = search needs
+
+returns : tie.Need-returns Inv-loop μ-loop
+returns c =
+    let l = c .before in
+    (fewer (l .loop .inv .1) _ (omega arith) (λ i _. refl), fewer (l .loop .inv .2) _ (omega arith) (λ i _. refl))
+
+pub join-words-spec : {M : Type 1} → statement M
+join-words-spec =
+    tie.close
+    (tie.spec
+    Inv-loop
+    μ-loop
+    loop-holds
+    mul-t14
+    shared-slice-read-t16
+    mul-t17
+    shared-slice-read-t19
+    mul-t14-2
+    shared-slice-read-t19-2
+    mul-t17-2
+    shared-slice-read-t16-2
+    lanes-requires
+    mul-ov
+    slice-write-ov
+    mul-ou
+    slice-write-ou
+    add-k
+    loop-less
+    loop-again
+    same-length
+    same-length-2
+    returns)
