@@ -5,7 +5,6 @@ use refusal::Verdict;
 use value::Header;
 use value::VectorAnswer;
 use value::check_output;
-use value::check_pair;
 use value::check_vector;
 ghost use mathlib.Core.Path.{_≡_};
 ghost use Rattle.refusal.specs.Outcome.{outcome};
@@ -50,19 +49,22 @@ fn join_vectors(
 ) -> VectorAnswer
     ensures { λ r. ⌜ outcome (vectorAnswer r) (lent (now (ov .exit)) (now (ou .exit))) ≡ bitwise op a (lent (now (av .entry)) (now (au .entry))) b (lent (now (bv .entry)) (now (bu .entry))) (lent (now (ov .entry)) (now (ou .entry))) ⌝ }
 {
-    match check_pair(a, av, au, b, bv, bu) {
+    match check_vector(a, av, au) {
         Verdict::Refused(r) => VectorAnswer::Refused(r),
-        Verdict::Accepted => {
-            let h = result_header(op, a, b);
-            let width = h.width;
-            match check_output(width, ov, ou) {
-                Verdict::Refused(r) => VectorAnswer::Refused(r),
-                Verdict::Accepted => {
-                    join::inner::join_planes(op, a, av, au, b, bv, bu, width, ov, ou);
-                    VectorAnswer::Vector(h)
+        Verdict::Accepted => match check_vector(b, bv, bu) {
+            Verdict::Refused(r) => VectorAnswer::Refused(r),
+            Verdict::Accepted => {
+                let h = result_header(op, a, b);
+                let width = h.width;
+                match check_output(width, ov, ou) {
+                    Verdict::Refused(r) => VectorAnswer::Refused(r),
+                    Verdict::Accepted => {
+                        join::inner::join_planes(op, a, av, au, b, bv, bu, width, ov, ou);
+                        VectorAnswer::Vector(h)
+                    }
                 }
             }
-        }
+        },
     }
 }
 
