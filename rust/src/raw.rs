@@ -23,14 +23,6 @@ pub struct HeaderResult {
     pub is_fill: bool,
 }
 
-/// A real, or a vector's header.
-#[repr(C)]
-pub struct OperandArgument {
-    pub is_real: bool,
-    pub header: Header,
-    pub real: f64,
-}
-
 // bits.rt
 extern "C" {
     pub fn vowherunga_get(width: u32, value: *const u64, value_len: usize, unknown: *const u64, unknown_len: usize, i: usize) -> BitResult;
@@ -147,7 +139,9 @@ alike! {
 
 extern "C" {
     pub fn vowherunga_is_nonzero(
-        a: OperandArgument,
+        a_is_real: bool,
+        a: Header,
+        a_real: f64,
         value: *const u64,
         value_len: usize,
         unknown: *const u64,
@@ -157,10 +151,10 @@ extern "C" {
 
 alike! {
     BitOfOperands: vowherunga_logic_and, vowherunga_logic_or, vowherunga_is_equal: (
-        a: OperandArgument,
+        a_is_real: bool, a: Header, a_real: f64,
         av: *const u64, av_len: usize,
         au: *const u64, au_len: usize,
-        b: OperandArgument,
+        b_is_real: bool, b: Header, b_real: f64,
         bv: *const u64, bv_len: usize,
         bu: *const u64, bu_len: usize
     ) -> BitResult

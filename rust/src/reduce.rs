@@ -63,7 +63,9 @@ pub fn reduce_xor(a: Header, value: &[u64], unknown: &[u64]) -> Result<LogicBit,
 
 /// True on a known 1, else unknown on an unknown bit, else false. A real is true if it is not equal to 0, so NaN is true.
 pub fn is_nonzero(a: Operand, value: &[u64], unknown: &[u64]) -> Result<Truth, Refusal> {
-    let answer = bit(unsafe { raw::vowherunga_is_nonzero(a.into(), value.as_ptr(), value.len(), unknown.as_ptr(), unknown.len()) })?;
+    let (is_real, header, real) = a.parts();
+    let answer =
+        bit(unsafe { raw::vowherunga_is_nonzero(is_real, header, real, value.as_ptr(), value.len(), unknown.as_ptr(), unknown.len()) })?;
     Ok(Truth::of_bit(answer))
 }
 
@@ -74,14 +76,20 @@ pub(crate) fn of_operands(
     (a, av, au): (Operand, &[u64], &[u64]),
     (b, bv, bu): (Operand, &[u64], &[u64]),
 ) -> Result<LogicBit, Refusal> {
+    let (a_is_real, a, a_real) = a.parts();
+    let (b_is_real, b, b_real) = b.parts();
     bit(unsafe {
         call(
-            a.into(),
+            a_is_real,
+            a,
+            a_real,
             av.as_ptr(),
             av.len(),
             au.as_ptr(),
             au.len(),
-            b.into(),
+            b_is_real,
+            b,
+            b_real,
             bv.as_ptr(),
             bv.len(),
             bu.as_ptr(),

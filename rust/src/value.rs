@@ -19,24 +19,18 @@ pub enum Operand {
     Real(f64),
 }
 
-impl From<Operand> for raw::OperandArgument {
-    fn from(operand: Operand) -> raw::OperandArgument {
-        let header = Header {
+impl Operand {
+    /// How an operand is passed: whether it is a real, then a header and a real, of which one counts.
+    #[inline(always)]
+    pub(crate) fn parts(self) -> (bool, Header, f64) {
+        let none = Header {
             width: 0,
             is_signed: false,
             is_fill: false,
         };
-        match operand {
-            Operand::Vector(header) => raw::OperandArgument {
-                is_real: false,
-                header,
-                real: 0.0,
-            },
-            Operand::Real(real) => raw::OperandArgument {
-                is_real: true,
-                header,
-                real,
-            },
+        match self {
+            Operand::Vector(header) => (false, header, 0.0),
+            Operand::Real(real) => (true, none, real),
         }
     }
 }

@@ -2,10 +2,9 @@
 use crate::answer::Answer;
 use crate::answer::of_bit;
 use crate::answer::of_vector;
+use crate::text::Operand;
 use crate::text::field;
-use crate::text::operand;
 use check::same;
-use coded::OperandArgument;
 use ffi::answers::vowherunga_case_eq;
 use ffi::answers::vowherunga_casex_eq;
 use ffi::answers::vowherunga_casez_eq;
@@ -25,18 +24,19 @@ use ffi::vectors::vowherunga_merge_unknown;
 use value::Header;
 
 // An answer bit of one operand.
-pub(crate) fn of_one(name: &[u8], a: OperandArgument, av: &[u64], au: &[u64]) -> Answer {
+pub(crate) fn of_one(name: &[u8], a: Operand, av: &[u64], au: &[u64]) -> Answer {
+    let h = a.header;
     if same(name, b"reduce_and") {
-        return of_bit(vowherunga_reduce_and(a.header, av, au));
+        return of_bit(vowherunga_reduce_and(h, av, au));
     }
     if same(name, b"reduce_or") {
-        return of_bit(vowherunga_reduce_or(a.header, av, au));
+        return of_bit(vowherunga_reduce_or(h, av, au));
     }
     if same(name, b"reduce_xor") {
-        return of_bit(vowherunga_reduce_xor(a.header, av, au));
+        return of_bit(vowherunga_reduce_xor(h, av, au));
     }
     if same(name, b"is_nonzero") {
-        return of_bit(vowherunga_is_nonzero(a, av, au));
+        return of_bit(vowherunga_is_nonzero(a.is_real, h, a.real, av, au));
     }
     Answer::NoCall
 }
@@ -44,24 +44,57 @@ pub(crate) fn of_one(name: &[u8], a: OperandArgument, av: &[u64], au: &[u64]) ->
 // An answer bit of two operands, each a vector or a real.
 pub(crate) fn of_two(
     name: &[u8],
-    a: OperandArgument,
+    a: Operand,
     av: &[u64],
     au: &[u64],
-    b: OperandArgument,
+    b: Operand,
     bv: &[u64],
     bu: &[u64],
 ) -> Answer {
-    if same(name, b"logic_and") {
-        return of_bit(vowherunga_logic_and(a, av, au, b, bv, bu));
-    }
-    if same(name, b"logic_or") {
-        return of_bit(vowherunga_logic_or(a, av, au, b, bv, bu));
-    }
-    if same(name, b"is_equal") {
-        return of_bit(vowherunga_is_equal(a, av, au, b, bv, bu));
-    }
     let x = a.header;
     let y = b.header;
+    if same(name, b"logic_and") {
+        return of_bit(vowherunga_logic_and(
+            a.is_real,
+            x,
+            a.real,
+            av,
+            au,
+            b.is_real,
+            y,
+            b.real,
+            bv,
+            bu,
+        ));
+    }
+    if same(name, b"logic_or") {
+        return of_bit(vowherunga_logic_or(
+            a.is_real,
+            x,
+            a.real,
+            av,
+            au,
+            b.is_real,
+            y,
+            b.real,
+            bv,
+            bu,
+        ));
+    }
+    if same(name, b"is_equal") {
+        return of_bit(vowherunga_is_equal(
+            a.is_real,
+            x,
+            a.real,
+            av,
+            au,
+            b.is_real,
+            y,
+            b.real,
+            bv,
+            bu,
+        ));
+    }
     of_vectors(name, x, av, au, y, bv, bu)
 }
 

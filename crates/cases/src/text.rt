@@ -1,5 +1,4 @@
 // The parts of a line, numbers, and vectors as text.
-use coded::OperandArgument;
 use value::Header;
 use words::Word;
 ghost use Prim.Native.Nat.{_≤_, _<_};
@@ -188,10 +187,17 @@ pub(crate) fn extent_of(s: &[u8]) -> Extent {
     marked(s, width, value, unknown)
 }
 
-pub(crate) fn operand(s: &[u8]) -> OperandArgument {
+// A vector's header, or a real.
+pub(crate) struct Operand {
+    pub(crate) is_real: bool,
+    pub(crate) header: Header,
+    pub(crate) real: f64,
+}
+
+pub(crate) fn operand(s: &[u8]) -> Operand {
     let e = extent_of(s);
     let header = e.header;
-    OperandArgument {
+    Operand {
         is_real: until(s, 0, b'r') < s.len(),
         header: header,
         real: real(s),

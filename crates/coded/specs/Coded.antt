@@ -2,6 +2,7 @@
 -- what a refused call leaves unsaid is 0.
 use mathlib.Core.Bool.{Bool, false, cond}
 use Prim.Native.Nat.{ℕ}
+use lib.Ieee.{Float}
 use Rattle.bit.specs.declared.LogicBit.{LogicBit}
 use Rattle.bit.specs.Rules.{code}
 use Rattle.refusal.specs.Outcome.{Answer, Outcome}
@@ -16,7 +17,6 @@ use Rattle.reduce.specs.Reduce.{truthBit}
 use Rattle.coded.specs.declared.BitResult.{BitResult}
 use Rattle.coded.specs.declared.WordResult.{WordResult}
 use Rattle.coded.specs.declared.HeaderResult.{HeaderResult}
-use Rattle.coded.specs.declared.OperandArgument.{OperandArgument}
 
 abbrev pub codedDone : Answer Unit → ℕ
 codedDone (given u) = 0
@@ -44,8 +44,9 @@ abbrev pub codedTruth : Answer Truth → BitResult
 codedTruth (given t) = record { refusal = 0; bit = code (truthBit t) }
 codedTruth (refused n) = record { refusal = n; bit = 0 }
 
-abbrev pub operandOf : OperandArgument → Operand
-operandOf a = cond (a .«is_real») (operand.Real (a .real)) (operand.Vector (a .header))
+-- an operand is passed as its mark, a header and a real, of which one counts
+abbrev pub operandOf : Bool → Header → Float → Operand
+operandOf isReal h x = cond isReal (operand.Real x) (operand.Vector h)
 
 -- a coded answer, and the lent planes as the call leaves them
 pub record Coded (C : Type 0) : Type 0 where

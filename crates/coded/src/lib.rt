@@ -37,14 +37,6 @@ pub struct HeaderResult {
     pub is_fill: bool,
 }
 
-// An operand of equality and truth: a real, or a vector's header.
-#[repr(C)]
-pub struct OperandArgument {
-    pub is_real: bool,
-    pub header: Header,
-    pub real: f64,
-}
-
 // 0 where the call was done.
 pub fn done(v: Verdict) -> u8
     ensures { λ r. ⌜ r ≡ codedDone (verdict v) ⌝ }
@@ -141,13 +133,12 @@ pub fn truth_result(a: TruthAnswer) -> BitResult
     }
 }
 
-// The operand that a number says: a real, or a vector by its header.
-pub fn operand(a: OperandArgument) -> Operand
-    ensures { λ r. ⌜ r ≡ operandOf a ⌝ }
+// An operand of equality and truth: a real, or a vector's header.
+pub fn operand(is_real: bool, header: Header, real: f64) -> Operand
+    ensures { λ r. ⌜ r ≡ operandOf «is_real» header real ⌝ }
 {
-    if a.is_real {
-        return Operand::Real(a.real);
+    if is_real {
+        return Operand::Real(real);
     }
-    let header = a.header;
     Operand::Vector(header)
 }

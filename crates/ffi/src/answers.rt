@@ -1,6 +1,5 @@
 // The operators whose answer is a bit, by its code.
 use coded::BitResult;
-use coded::OperandArgument;
 use coded::bit_result;
 use coded::operand;
 use coded::truth_result;
@@ -39,64 +38,78 @@ pub extern "C" fn vowherunga_reduce_xor(a: Header, value: &[u64], unknown: &[u64
 // `reduce::is_nonzero`: 0 false, 1 true, 2 unknown
 #[no_mangle]
 pub extern "C" fn vowherunga_is_nonzero(
-    a: OperandArgument,
+    a_is_real: bool,
+    a: Header,
+    a_real: f64,
     value: &[u64],
     unknown: &[u64],
 ) -> BitResult
-    ensures { λ r. ⌜ r ≡ codedTruth (isNonzero (operandOf a) (lent (now (value .entry)) (now (unknown .entry)))) ⌝ }
+    ensures { λ r. ⌜ r ≡ codedTruth (isNonzero (operandOf «a_is_real» a «a_real») (lent (now (value .entry)) (now (unknown .entry)))) ⌝ }
 {
-    let o = operand(a);
+    let o = operand(a_is_real, a, a_real);
     truth_result(reduce::is_nonzero(o, value, unknown))
 }
 
 // `reduce::logic_and`
 #[no_mangle]
 pub extern "C" fn vowherunga_logic_and(
-    a: OperandArgument,
+    a_is_real: bool,
+    a: Header,
+    a_real: f64,
     av: &[u64],
     au: &[u64],
-    b: OperandArgument,
+    b_is_real: bool,
+    b: Header,
+    b_real: f64,
     bv: &[u64],
     bu: &[u64],
 ) -> BitResult
-    ensures { λ r. ⌜ r ≡ codedBit (logicAnd (operandOf a) (lent (now (av .entry)) (now (au .entry))) (operandOf b) (lent (now (bv .entry)) (now (bu .entry)))) ⌝ }
+    ensures { λ r. ⌜ r ≡ codedBit (logicAnd (operandOf «a_is_real» a «a_real») (lent (now (av .entry)) (now (au .entry))) (operandOf «b_is_real» b «b_real») (lent (now (bv .entry)) (now (bu .entry)))) ⌝ }
 {
-    let x = operand(a);
-    let y = operand(b);
+    let x = operand(a_is_real, a, a_real);
+    let y = operand(b_is_real, b, b_real);
     bit_result(reduce::logic_and(x, av, au, y, bv, bu))
 }
 
 // `reduce::logic_or`
 #[no_mangle]
 pub extern "C" fn vowherunga_logic_or(
-    a: OperandArgument,
+    a_is_real: bool,
+    a: Header,
+    a_real: f64,
     av: &[u64],
     au: &[u64],
-    b: OperandArgument,
+    b_is_real: bool,
+    b: Header,
+    b_real: f64,
     bv: &[u64],
     bu: &[u64],
 ) -> BitResult
-    ensures { λ r. ⌜ r ≡ codedBit (logicOr (operandOf a) (lent (now (av .entry)) (now (au .entry))) (operandOf b) (lent (now (bv .entry)) (now (bu .entry)))) ⌝ }
+    ensures { λ r. ⌜ r ≡ codedBit (logicOr (operandOf «a_is_real» a «a_real») (lent (now (av .entry)) (now (au .entry))) (operandOf «b_is_real» b «b_real») (lent (now (bv .entry)) (now (bu .entry)))) ⌝ }
 {
-    let x = operand(a);
-    let y = operand(b);
+    let x = operand(a_is_real, a, a_real);
+    let y = operand(b_is_real, b, b_real);
     bit_result(reduce::logic_or(x, av, au, y, bv, bu))
 }
 
 // `compare::is_equal`
 #[no_mangle]
 pub extern "C" fn vowherunga_is_equal(
-    a: OperandArgument,
+    a_is_real: bool,
+    a: Header,
+    a_real: f64,
     av: &[u64],
     au: &[u64],
-    b: OperandArgument,
+    b_is_real: bool,
+    b: Header,
+    b_real: f64,
     bv: &[u64],
     bu: &[u64],
 ) -> BitResult
-    ensures { λ r. ⌜ r ≡ codedBit (isEqual (operandOf a) (lent (now (av .entry)) (now (au .entry))) (operandOf b) (lent (now (bv .entry)) (now (bu .entry)))) ⌝ }
+    ensures { λ r. ⌜ r ≡ codedBit (isEqual (operandOf «a_is_real» a «a_real») (lent (now (av .entry)) (now (au .entry))) (operandOf «b_is_real» b «b_real») (lent (now (bv .entry)) (now (bu .entry)))) ⌝ }
 {
-    let x = operand(a);
-    let y = operand(b);
+    let x = operand(a_is_real, a, a_real);
+    let y = operand(b_is_real, b, b_real);
     bit_result(compare::is_equal(x, av, au, y, bv, bu))
 }
 

@@ -1,14 +1,11 @@
 // The work behind the entries. These ask their caller for planes that were checked.
 use crate::Truth;
 use bit::LogicBit;
-use value::Operand;
 use words::inner::kept;
 use words::inner::ones;
 ghost use mathlib.Core.Path.{_≡_};
-ghost use Rattle.refusal.specs.Outcome.Answer.{given};
-ghost use Rattle.words.specs.Planes.{fromPlanes, lent, Plane};
-ghost use Rattle.value.specs.Checks.{checkOperand};
-ghost use Rattle.reduce.specs.Reduce.{reduceAnd, reduceOr, reduceXor, truthOf, operandTruth, knownBit};
+ghost use Rattle.words.specs.Planes.{fromPlanes, Plane};
+ghost use Rattle.reduce.specs.Reduce.{reduceAnd, reduceOr, reduceXor, truthOf, knownBit};
 ghost use Rattle.reduce.specs.Reduce as reduce;
 
 // Whether a known 1 stands in the vector, or a known 0 where `one` is false; unknown where only an unknown bit could be it.
@@ -92,19 +89,5 @@ pub fn xor_bits(width: u32, value: &[u64], unknown: &[u64]) -> LogicBit
         LogicBit::Zero
     } else {
         LogicBit::One
-    }
-}
-
-// The truth of an operand that was accepted.
-pub fn operand_truth(o: Operand, value: &[u64], unknown: &[u64]) -> Truth
-    requires { ⌜ checkOperand o (lent (now value) (now unknown)) ≡ given tt ⌝ }
-    ensures { λ r. ⌜ r ≡ operandTruth o (lent (now (value .entry)) (now (unknown .entry))) ⌝ }
-{
-    match o {
-        Operand::Vector(h) => {
-            let width = h.width;
-            truth(width, value, unknown)
-        }
-        Operand::Real(x) => { if x != 0.0 { Truth::True } else { Truth::False } }
     }
 }

@@ -1,0 +1,39 @@
+-- `reduce::vector_truth`: refused as checked, else by the inner function.
+use mathlib.Core.Path.{sym, ap, _∙_}
+use Rattle.refusal.specs.Outcome.{verdict}
+use Rattle.value.specs.Checks.{checkOperand}
+use Rattle.value.proofs.Checks.{vector-accepted}
+use borrow.Author.Needs.{needs}
+use Rattle.reduce.proofs.vector_truth.Statement.{statement}
+use Rattle.reduce.proofs.vector_truth.Tie as tie
+
+check-vector-requires : tie.Need-check-vector-requires
+check-vector-requires c κs = search needs
+
+enum-known-r : tie.Need-enum-known-r
+enum-known-r c = search needs
+
+enum-told : tie.Need-enum-told
+enum-told c = search needs
+
+truth-requires : tie.Need-truth-requires
+truth-requires c κs =
+    let h = vector-accepted _ _ (sym (c .before .before .check-vector .ensures) ∙ ap verdict (c .enum-told .given .1)) .planes in
+    (h .value-plane, h .unknown-plane)
+
+returns : tie.Need-returns
+unfolding checkOperand
+returns c =
+    let t = c .before in
+    simp (sym (t .before .before .check-vector .ensures) ∙ ap verdict (t .r .given .1))
+
+returns-2 : tie.Need-returns-2
+unfolding checkOperand
+returns-2 c =
+    let t = c .before in
+    simp (sym (t .before .before .check-vector .ensures) ∙ ap verdict (t .enum-told .given .1), c .truth .ensures)
+
+pub vector-truth-spec : {M : Type 1} → statement M
+vector-truth-spec =
+    tie.close
+    (tie.spec check-vector-requires enum-known-r enum-told truth-requires returns returns-2)
