@@ -104,7 +104,7 @@ impl Rng {
 }
 
 /// The n low bits set, n at most 64.
-fn low_bits(n: usize) -> u64 {
+pub fn low_bits(n: usize) -> u64 {
     match n {
         0 => 0,
         n => u64::MAX >> (64 - n),

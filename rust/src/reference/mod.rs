@@ -20,6 +20,14 @@ impl Value {
     }
 }
 
+/// The bit that stands for a truth of the reference.
+pub fn truth_bit(truth: Option<bool>) -> Value {
+    match truth {
+        Some(known) => Value::from_u64(u64::from(known), 1),
+        None => Value::new(1),
+    }
+}
+
 /// A vector that owns its planes.
 #[derive(Clone, Debug, PartialEq, Eq)]
 pub struct Vector {

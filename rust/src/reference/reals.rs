@@ -1,6 +1,7 @@
-//! Reals for comparisons: the special ones, drawn ones, and vectors that lie near a real.
+//! Reals for comparisons: the special ones, drawn ones, quotients, and vectors that lie near a real.
 use super::draw::Rng;
 use super::Vector;
+use std::fmt;
 
 /// Zero, subnormals, halves and what lies beside them, the neighbours of powers of 2 where a real runs out of bits or a word of room,
 /// infinity and NaN; each with both signs.
@@ -18,6 +19,33 @@ pub fn special() -> Vec<f64> {
     all.iter().flat_map(|f| [*f, -*f]).collect()
 }
 
+/// A real as a quotient of two numbers, each of which a real holds exactly; infinite or NaN if the lower one is 0.
+#[derive(Clone, Copy)]
+pub struct Quotient {
+    minus: bool,
+    upper: u64,
+    lower: u64,
+}
+
+impl Quotient {
+    pub fn real(self) -> f64 {
+        let f = self.upper as f64 / self.lower as f64;
+        if self.minus {
+            -f
+        } else {
+            f
+        }
+    }
+}
+
+impl fmt::Display for Quotient {
+    /// As the tables of crates/cases have it: r-5/2.
+    fn fmt(&self, f: &mut fmt::Formatter) -> fmt::Result {
+        let sign = if self.minus { "-" } else { "" };
+        write!(f, "r{sign}{}/{}", self.upper, self.lower)
+    }
+}
+
 impl Rng {
     /// Any pattern of bits, or a number of either sign below 2 to the 140, or a half.
     pub fn real(&mut self) -> f64 {
@@ -26,6 +54,23 @@ impl Rng {
             0 => f64::from_bits(self.next()),
             1 => f64::from_bits(sign | ((self.below(1 << 50) as f64 + 0.5).to_bits())),
             _ => f64::from_bits(sign | ((1020 + self.below(143)) << 52) | self.next() >> 12),
+        }
+    }
+
+    /// Zero, infinity, NaN, the last half, a small half, the neighbours of a power of 2 from 2 to the 52 to 2 to the 63, or a number up to that.
+    pub fn quotient(&mut self) -> Quotient {
+        let power = f64::powi(2.0, 52 + self.below(12) as i32);
+        let shift = self.choose(&[1, 1, 11, 32, 56, 60]);
+        let (upper, lower) = match self.below(6) {
+            0 => self.choose(&[(0, 1), (1, 0), (0, 0), ((1 << 53) - 1, 2)]),
+            1 | 2 => (self.below(16), 2),
+            3 => (self.choose(&[power.next_down(), power, power.next_up()]) as u64, 1),
+            _ => ((self.next() >> shift) as f64 as u64, 1),
+        };
+        Quotient {
+            minus: self.below(2) == 0,
+            upper,
+            lower,
         }
     }
 

@@ -1,9 +1,8 @@
 //! Vectors of at most 64 bits held by value, against the reference's `Value`.
 use crate::alike::Tally;
-use crate::reduce::truth_bit;
 use crate::samples::{each_pair, each_vector, Sample};
 use vowherunga::reference::value::Value;
-use vowherunga::reference::Vector;
+use vowherunga::reference::{truth_bit, Vector};
 use vowherunga::LogicBit::{One, Zero, X};
 use vowherunga::{LogicBit, Narrow, Word};
 

@@ -2,6 +2,7 @@
 use crate::alike::Tally;
 use crate::samples::{each_pair, each_pair_with_a_real, each_vector, some_reals, Sample};
 use vowherunga::reference::draw::Rng;
+use vowherunga::reference::truth_bit;
 use vowherunga::reference::value::Value;
 use vowherunga::LogicBit::{One, Zero, X};
 use vowherunga::{reduce, value, Header, LogicBit, Operand, Refusal};
@@ -32,14 +33,6 @@ fn reduce_or() {
 #[test]
 fn reduce_xor() {
     reduction(22, reduce::reduce_xor, Value::reduce_xor);
-}
-
-/// The bit that stands for a truth of the reference.
-pub fn truth_bit(truth: Option<bool>) -> Value {
-    match truth {
-        Some(known) => Value::from_u64(u64::from(known), 1),
-        None => Value::new(1),
-    }
 }
 
 #[test]

@@ -1,0 +1,38 @@
+//! The table of the reference's answers that crates/cases replays without Rust; its lines are told in crates/cases/src/main.rt.
+mod bits;
+mod operators;
+mod text;
+
+use super::draw::Rng;
+use super::Vector;
+
+/// The widths of an entry's lines: few bits and about a word, each once; some about two words and three; then few bits again.
+fn widths(rng: &mut Rng) -> Vec<u32> {
+    let mut all: Vec<u32> = (0..=5).chain(31..=33).chain(63..=66).collect();
+    all.extend((0..3).map(|_| rng.choose(&[127, 128, 129, 130, 192])));
+    all.extend((0..24).map(|_| 1 + rng.below(5) as u32));
+    all
+}
+
+/// What stands in the planes lent for a result: other bits than its own, up to a little above its width or to the planes' end.
+fn stood(rng: &mut Rng, result: &Vector) -> Vector {
+    let Vector { header, value, unknown } = result;
+    let end = value.len() as u32 * 64;
+    let reach = rng.choose(&[3, 3, 3, 3, 3, 3, 3, 64]).min(end - header.width) + header.width;
+    loop {
+        let mut v = rng.vector(reach);
+        v.header.width = header.width;
+        if v.value != *value || v.unknown != *unknown {
+            return v;
+        }
+    }
+}
+
+/// The whole table: fewer than 65,536 bytes, which is what crates/cases reads.
+pub fn table() -> String {
+    let mut rng = Rng::new(0x616e_7377_6572);
+    let mut lines = Vec::new();
+    bits::lines(&mut rng, &mut lines);
+    operators::lines(&mut rng, &mut lines);
+    lines.iter().map(|line| format!("{line}\n")).collect()
+}
