@@ -1,5 +1,6 @@
 -- Two operands place by place.
 --     zero-apart, zero-unsure     two zeros neither mismatch nor leave the answer open
+--     one-apart, one-unsure       nor do two ones
 --     over-extents                the places over the extents are those of the definition
 --     narrow                      an extent is no wider than the operand
 --     real-left, real-right       equality beside a real
@@ -50,6 +51,20 @@ zero-unsure CaseEqual = refl
 zero-unsure CasezEqual = refl
 zero-unsure CasexEqual = refl
 zero-unsure WildcardEqual = refl
+
+pub one-apart : (op : Comparison) → mismatch op One One ≡ false
+one-apart Equal = refl
+one-apart CaseEqual = refl
+one-apart CasezEqual = refl
+one-apart CasexEqual = refl
+one-apart WildcardEqual = refl
+
+pub one-unsure : (op : Comparison) → unsure op One One ≡ false
+one-unsure Equal = refl
+one-unsure CaseEqual = refl
+one-unsure CasezEqual = refl
+one-unsure CasexEqual = refl
+one-unsure WildcardEqual = refl
 
 pub over-extents : (op : Comparison) (a b : Header) (av au bv bu : List ℕ) (t : Operator) → t ≡ operator op → (x y : Extent)
     → x ≡ extentOf t (vector a (lent av au)) b → y ≡ extentOf t (vector b (lent bv bu)) a → (w : ℕ) → w ≡ max (a .width) (b .width)

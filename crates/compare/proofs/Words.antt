@@ -2,32 +2,38 @@
 --     both           lane formulas that pass the computed test mark the places of a word
 --     word-marked    the marks of word k, cut off at the width, are not 0 where a place of word k passes the test
 --     next, left     one word more without a mismatch; the scan is left at a mismatch
+--     next-whole     the same by words straight from the planes, where both operands have them whole
+--     same-start     words that are known and the same hold no mismatch and leave nothing open
 --     one-word       the answer of operands that have one word each
 use mathlib.Core.Path.{_≡_, refl, sym, ap, ap₂, _∙_}
 use mathlib.Core.Bool.{Bool, true, false, not, _||_, cond}
 use mathlib.Core.List.{List}
-use Prim.Native.Nat.{ℕ, _+_, _-_, _*_, _^_, _≤_, _<_, min}
+use Prim.Native.Nat.{ℕ, zero, suc, _+_, _-_, _*_, _%_, _^_, _≤_, _<_, min}
 use native.Mathlib.Nat.{zero-add}
+use native.Mathlib.Numerals.{add-one}
+use native.Mathlib.Omega.{arith}
 use lib.Dec.{T, eqb, lit<}
-use lib.Bits.{bitAnd, bitOr}
+use lib.Pow.{pow-pos}
+use lib.Bits.{bitAnd, bitOr, bitXor, and-mask, and-le-l, and-le-r, or-zero-r, or-add-and, xor-add-and}
 use lib.ListN.{getD}
 use Rattle.bit.specs.declared.LogicBit.{LogicBit}
-use Rattle.bit.specs.declared.LogicBit.the-variants.{Zero}
+use Rattle.bit.specs.declared.LogicBit.the-variants.{Zero, One}
 use Rattle.words.specs.declared.Word.{Word}
 use Rattle.words.specs.Vector.{bitAt, tabulate, pack}
-use Rattle.words.specs.Planes.{bitOf, wordAt}
-use Rattle.words.proofs.Digits.{pack-bit, pack-lt}
+use Rattle.words.specs.Planes.{stored, bitOf, fromPlanes, lent}
+use Rattle.words.proofs.Digits.{pack-bit, pack-lt, pack-ext, bit-of-zero}
 use Rattle.words.proofs.Planes.{getD-tabulate, getD-tabulate-out, length-tabulate}
 use Rattle.words.proofs.Lanes.{Lane, word, gives, lane}
-use Rattle.words.proofs.Extend.{cut, word-bit}
+use Rattle.words.proofs.Extend.{wordBy, cut}
 use Rattle.reduce.specs.Reduce.{any}
 use Rattle.reduce.proofs.Gather.{gather-cong}
-use Rattle.reduce.proofs.Places.{some, any-some, nonzero}
-use Rattle.reduce.proofs.Scan.{more, found}
+use Rattle.reduce.proofs.Places.{some, any-some, nonzero, inside}
+use Rattle.reduce.proofs.Scan.{start, more, found}
+use Rattle.extension.specs.declared.Extent.{Extent}
 use Rattle.compare.specs.declared.Comparison.{Comparison}
 use Rattle.compare.specs.declared.inner.Marks.{Marks}
-use Rattle.compare.specs.Compare.{mismatch, unsure, onPair, decided, wordPlaces, marked, marksOf, cutMarks}
-use Rattle.compare.proofs.Places.{zeros, zero-apart, zero-unsure, answered, Compared, by-tests, apart}
+use Rattle.compare.specs.Compare.{mismatch, unsure, onPair, decided, placesOver, wordPlaces, marked, marksOf, cutMarks, unlike}
+use Rattle.compare.proofs.Places.{zeros, zero-apart, zero-unsure, one-apart, one-unsure, answered, Compared, by-tests, apart}
 
 abbrev pub marksBy : ℕ → ℕ → Marks
 marksBy m d = record { apart = m; doubt = d }
@@ -74,19 +80,57 @@ module _ (t : LogicBit → LogicBit → Bool) (fails : t Zero Zero ≡ false) (f
       ∙ gather-cong _||_ false 64 (λ j. eqb (bitAt (pack 64 (λ j. cond (hit j) 1 0)) j) 1) hit
       (λ j l. ap (λ (d : ℕ). eqb d 1) (pack-bit 64 (λ j. cond (hit j) 1 0) (λ j _. digit-lt (hit j)) j l) ∙ digit-one (hit j))
 
--- a word that was read as word k of the bits f has these bits
-pub read-bit : (f : ℕ → LogicBit) (k : ℕ) (x : Word) → x ≡ wordAt f k → (j : ℕ) → j < 64 → bitOf x j ≡ f (k * 64 + j)
-read-bit f k x e j l = ap (λ (x : Word). bitOf x j) e ∙ word-bit f k j l
+marked-lt : (t : LogicBit → LogicBit → Bool) (x y : Word) → marked t x y < 2 ^ 64
+unfolding marked
+marked-lt t x y = pack-lt 64 (λ j. cond (t (bitOf x j) (bitOf y j)) 1 0) (λ j _. digit-lt (t (bitOf x j) (bitOf y j)))
+
+uncut : (w k m : ℕ) → k * 64 + 64 ≤ w → m < 2 ^ 64 → m ≡ below w k m
+uncut w k m h l =
+    let e : 64 ≡ min 64 (w - k * 64) = omega arith in
+    let z : m ≡ m % 2 ^ 64 = omega arith in
+    z ∙ sym (and-mask m 64) ∙ ap (λ (n : ℕ). bitAnd m (2 ^ n - 1)) e
+
+-- nothing is cut off the marks of a word that lies below the width
+whole : (op : Comparison) (w k : ℕ) (x y : Word) (m : Marks) → m ≡ marksOf op x y → k * 64 + 64 ≤ w → m ≡ cutMarks w k (marksOf op x y)
+unfolding cutMarks
+whole op w k x y m e h = e ∙ ap₂ marksBy (uncut w k _ h (marked-lt (mismatch op) x y)) (uncut w k _ h (marked-lt (unsure op) x y))
+
+-- two words that have no one together have none each
+pub or-none : (x y : ℕ) → bitOr x y ≡ 0 → (x ≡ 0) × (y ≡ 0)
+or-none x y z = (omega (arith, z, or-add-and x y, and-le-r x y), omega (arith, z, or-add-and x y, and-le-l x y))
+
+-- words without a one in `unlike`
+same-words : (p q r s : ℕ) → bitOr (bitOr (bitXor p r) q) s ≡ 0 → (p ≡ r) × ((q ≡ 0) × (s ≡ 0))
+same-words p q r s z =
+    let h = or-none (bitOr (bitXor p r) q) s z in
+    let g = or-none (bitXor p r) q (h .0) in
+    (omega (arith, g .0, xor-add-and p r, and-le-l p r, and-le-r p r), (g .1, h .1))
+
+known-same : (t : LogicBit → LogicBit → Bool) → t Zero Zero ≡ false → t One One ≡ false → (v : ℕ) → t (stored v 0) (stored v 0) ≡ false
+known-same t z o zero = z
+known-same t z o (suc v) = o
+
+unmarked : (t : LogicBit → LogicBit → Bool) → t Zero Zero ≡ false → t One One ≡ false → (v : ℕ) → marked t (wordBy v 0) (wordBy v 0) ≡ 0
+unfolding marked
+unmarked t z o v =
+    sym (pack-ext 64 0 _ (pow-pos 64)
+    (λ j _. bit-of-zero j
+    ∙ sym (ap (λ (b : Bool). cond b 1 0)
+    (ap (λ (u : ℕ). t (stored (bitAt v j) u) (stored (bitAt v j) u)) (bit-of-zero j) ∙ known-same t z o (bitAt v j)))))
+
+nothing : (op : Comparison) (v : ℕ) → marksOf op (wordBy v 0) (wordBy v 0) ≡ marksBy 0 0
+nothing op v = ap₂ marksBy (unmarked (mismatch op) (zero-apart op) (one-apart op) v) (unmarked (unsure op) (zero-unsure op) (one-unsure op) v)
 
 -- one word more of a scan, by word k of both operands and its marks
-module _ (op : Comparison) (f g : ℕ → LogicBit) (w k : ℕ) (x y : Word) (hx : x ≡ wordAt f k) (hy : y ≡ wordAt g k)
+module _ (op : Comparison) (f g : ℕ → LogicBit) (w k : ℕ) (x y : Word)
+    (hx : (j : ℕ) → j < 64 → bitOf x j ≡ f (k * 64 + j)) (hy : (j : ℕ) → j < 64 → bitOf y j ≡ g (k * 64 + j))
     (m : Marks) (hm : m ≡ cutMarks w k (marksOf op x y)) (d : ℕ) (s : Compared op (tabulate w (λ i. (f i, g i))) d k) where
   abbrev pairs : List (LogicBit × LogicBit)
   pairs = tabulate w (λ i. (f i, g i))
 
   told : (t : LogicBit → LogicBit → Bool) → t Zero Zero ≡ false → (n : ℕ) → n ≡ below w k (marked t x y)
       → not (eqb n 0) ≡ some 64 (λ j. onPair t (getD pairs (k * 64 + j) zeros))
-  told t fails n e = ap (λ (n : ℕ). not (eqb n 0)) e ∙ word-marked t fails f g w k x y (read-bit f k x hx) (read-bit g k y hy)
+  told t fails n e = ap (λ (n : ℕ). not (eqb n 0)) e ∙ word-marked t fails f g w k x y hx hy
 
   apart-told : not (eqb (m .apart) 0) ≡ some 64 (λ j. onPair (mismatch op) (getD pairs (k * 64 + j) zeros))
   unfolding cutMarks
@@ -101,6 +145,34 @@ module _ (op : Comparison) (f g : ℕ → LogicBit) (w k : ℕ) (x y : Word) (hx
 
   pub left : (m .apart ≡ 0 → ⊥) → answered true d ≡ decided op (tabulate w (λ i. (f i, g i)))
   left z = apart op pairs d (found (onPair (mismatch op)) (onPair (unsure op)) zeros zeros pairs (zero-apart op) d k s (m .apart) apart-told z)
+
+-- ---- words straight from the planes
+
+-- word k of two planes
+abbrev wordIn : List ℕ → List ℕ → ℕ → Word
+wordIn v u k = wordBy (getD v k 0) (getD u k 0)
+
+module _ (op : Comparison) (w : ℕ) (a b : Extent) (av au bv bu : List ℕ) where
+  pub next-whole : (k : ℕ) → k * 64 + 64 ≤ w → k * 64 + 64 ≤ a .width → k * 64 + 64 ≤ b .width
+      → (m : Marks) → m ≡ marksOf op (wordBy (getD av k 0) (getD au k 0)) (wordBy (getD bv k 0) (getD bu k 0)) → m .apart ≡ 0
+      → (d : ℕ) → Compared op (placesOver w a (lent av au) b (lent bv bu)) d k
+      → Compared op (placesOver w a (lent av au) b (lent bv bu)) (bitOr d (m .doubt)) (k + 1)
+  next-whole k hw ha hb m e z d s =
+      next op (λ i. getD (fromPlanes (a .width) av au) i (a .beyond)) (λ i. getD (fromPlanes (b .width) bv bu) i (b .beyond)) w k
+      (wordIn av au k) (wordIn bv bu k)
+      (λ j l. sym (inside (a .width) av au (a .beyond) k j l (omega arith)))
+      (λ j l. sym (inside (b .width) bv bu (b .beyond) k j l (omega arith)))
+      m (whole op w k (wordIn av au k) (wordIn bv bu k) m e hw) d s z
+
+  pub same-start : (k : ℕ) → k * 64 ≤ w → k * 64 ≤ a .width → k * 64 ≤ b .width → ((i : ℕ) → i < k → unlike av au bv bu i ≡ 0)
+      → Compared op (placesOver w a (lent av au) b (lent bv bu)) 0 k
+  same-start zero hw ha hb h = start _ _ _ _ _
+  same-start (suc k) hw ha hb h =
+      let q = same-words (getD av k 0) (getD au k 0) (getD bv k 0) (getD bu k 0) (h k (omega arith)) in
+      let e : marksOf op (wordIn av au k) (wordIn bv bu k) ≡ marksBy 0 0 =
+      (λ i. marksOf op (wordBy (q .0 i) (q .1 .0 i)) (wordBy (getD bv k 0) (q .1 .1 i))) ∙ nothing op (getD bv k 0) in
+      rw (sym (add-one k)) (rw (or-zero-r 0) at
+      (next-whole k (omega arith) (omega arith) (omega arith) (marksBy 0 0) (sym e) refl 0 (same-start k (omega arith) (omega arith) (omega arith) (λ i l. h i (omega arith)))))
 
 module _ (w : ℕ) (l : w ≤ 64) (a b : Word) where
   some-place : (t : LogicBit → LogicBit → Bool) → t Zero Zero ≡ false → any (onPair t) (wordPlaces w a b) ≡ not (eqb (below w 0 (marked t a b)) 0)

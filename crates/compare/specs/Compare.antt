@@ -2,7 +2,7 @@
 use mathlib.Core.Bool.{Bool, false, not, _&&_, _||_, cond}
 use mathlib.Core.List.{List}
 use Prim.Native.Nat.{ℕ, _-_, _*_, _^_, min}
-use lib.Bits.{bitAnd}
+use lib.Bits.{bitAnd, bitOr, bitXor}
 use lib.ListN.{getD}
 use lib.Ieee as Ieee
 use Rattle.bit.specs.declared.LogicBit.{LogicBit}
@@ -116,6 +116,10 @@ marksOf op a b = record { apart = marked (mismatch op) a b; doubt = marked (unsu
 -- those of word k that lie below the width w
 unfoldable pub cutMarks : ℕ → ℕ → Marks → Marks
 cutMarks w k m = record { apart = bitAnd (m .apart) (2 ^ min 64 (w - k * 64) - 1); doubt = bitAnd (m .doubt) (2 ^ min 64 (w - k * 64) - 1) }
+
+-- a one at each place of word i of two operands where their values differ or one of them is unknown
+abbrev pub unlike : List ℕ → List ℕ → List ℕ → List ℕ → ℕ → ℕ
+unlike av au bv bu i = bitOr (bitOr (bitXor (getD av i 0) (getD bv i 0)) (getD au i 0)) (getD bu i 0)
 
 -- the first bits of two words, place by place
 abbrev pub wordPlaces : ℕ → Word → Word → List (LogicBit × LogicBit)

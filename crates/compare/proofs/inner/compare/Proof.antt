@@ -32,7 +32,10 @@ scan-requires c κs =
     let xw : x .extent .result .width ≤ a .a .width = narrow (o .operator .result) (a .a) (a .b) (a .av .now) (a .au .now) _ (x .extent .ensures) in
     let yw : y .extent2 .result .width ≤ a .b .width = narrow (o .operator .result) (a .b) (a .a) (a .bv .now) (a .bu .now) _ (y .extent2 .ensures) in (
       (omega (arith, s .pre .0 .0 .count), omega (arith, s .pre .0 .1 .count)),
-      (omega (arith, s .pre .1 .0 .count), omega (arith, s .pre .1 .1 .count)),
+      (
+        (omega (arith, s .pre .1 .0 .count), omega (arith, s .pre .1 .1 .count)),
+        omega (arith, c .larger .ensures),
+      ),
     )
 
 returns : tie.Need-returns
