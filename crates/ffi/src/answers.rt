@@ -7,7 +7,7 @@ use value::Header;
 ghost use mathlib.Core.Path.{_≡_};
 ghost use Rattle.words.specs.Planes.{lent};
 ghost use Rattle.reduce.specs.Reduce.{reduceAnd, reduceOr, reduceXor, reduction, isNonzero, logicAnd, logicOr};
-ghost use Rattle.compare.specs.declared.Comparison.the-variants.{CaseEqual, CasezEqual, CasexEqual, WildcardEqual};
+ghost use Rattle.scan.specs.declared.Comparison.the-variants.{CaseEqual, CasezEqual, CasexEqual, WildcardEqual};
 ghost use Rattle.compare.specs.Compare.{comparison, isEqual};
 ghost use Rattle.coded.specs.Coded.{codedBit, codedTruth, operandOf};
 

@@ -1,6 +1,6 @@
 // Word forms, for vectors of at most 64 bits: a word of each plane in, a pair of words or the code of a bit out.
-use compare::Comparison;
 use lanes::Bitwise;
+use scan::Comparison;
 use words::Word;
 ghost use mathlib.Core.Path.{_≡_};
 ghost use Prim.Native.Nat.{min};
@@ -9,8 +9,8 @@ ghost use Rattle.words.specs.Planes.{vectorOf, planesOf};
 ghost use Rattle.lanes.specs.declared.Bitwise.the-variants.{And, Or, Xor, Merge};
 ghost use Rattle.join.specs.Joined.{joined, inverted};
 ghost use Rattle.reduce.specs.Reduce.{reduceAnd, reduceOr, reduceXor, truthOf, truthBit};
-ghost use Rattle.compare.specs.declared.Comparison.the-variants.{Equal, CaseEqual, CasezEqual, CasexEqual, WildcardEqual};
-ghost use Rattle.compare.specs.Compare.{compared};
+ghost use Rattle.scan.specs.declared.Comparison.the-variants.{Equal, CaseEqual, CasezEqual, CasexEqual, WildcardEqual};
+ghost use Rattle.scan.specs.Compared.{compared};
 ghost use Rattle.narrow.specs.Narrow.{single, plain64};
 
 // `narrow::join` by and

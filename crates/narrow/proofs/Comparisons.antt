@@ -23,9 +23,9 @@ use Rattle.reduce.specs.Reduce.{any}
 use Rattle.reduce.proofs.Gather.{gather-cong}
 use Rattle.reduce.proofs.Places.{any-some}
 use Rattle.extension.specs.Extension.{extendsByTop, stretched, signedFor, signExtended, top, operandAt}
-use Rattle.compare.specs.declared.Comparison.{Comparison}
-use Rattle.compare.specs.Compare.{operator, mismatch, unsure, onPair, decided, places, compared, wordPlaces}
-use Rattle.compare.proofs.Places.{zeros, zero-apart, zero-unsure}
+use Rattle.scan.specs.declared.Comparison.{Comparison}
+use Rattle.scan.specs.Compared.{operator, mismatch, unsure, onPair, decided, places, compared, wordPlaces}
+use Rattle.scan.proofs.Places.{zeros, zero-apart, zero-unsure}
 use Rattle.narrow.specs.Narrow.{single, plain64}
 use Rattle.narrow.proofs.Singles.{whole, at-most, placeOf}
 

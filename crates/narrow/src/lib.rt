@@ -1,9 +1,9 @@
 // Word forms of the operators, for vectors of at most 64 bits: a word of each plane in, a word pair or an answer out. Nothing is asked of the
 // words; bits at or above a width are not seen.
 use bit::LogicBit;
-use compare::Comparison;
 use lanes::Bitwise;
 use reduce::Truth;
+use scan::Comparison;
 use words::Word;
 use words::inner::least;
 use words::inner::ones;
@@ -12,7 +12,7 @@ ghost use Prim.Native.Nat.{min};
 ghost use Rattle.words.specs.Planes.{vectorOf, planesOf};
 ghost use Rattle.reduce.specs.Reduce.{reduceAnd, reduceOr, reduceXor, truthOf};
 ghost use Rattle.join.specs.Joined.{joined, inverted};
-ghost use Rattle.compare.specs.Compare.{compared};
+ghost use Rattle.scan.specs.Compared.{compared};
 ghost use Rattle.narrow.specs.Narrow.{single, plain64};
 
 // The operator at each of the 64 places.
@@ -85,5 +85,5 @@ pub fn reduce_xor(a: Word) -> LogicBit
 pub fn compare(op: Comparison, a: Word, b: Word) -> LogicBit
     ensures { λ r. ⌜ r ≡ compared op (plain64 a) (plain64 b) ⌝ }
 {
-    compare::inner::compare_words(op, a, b, 64)
+    scan::inner::compare_words(op, a, b, 64)
 }

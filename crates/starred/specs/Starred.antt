@@ -10,8 +10,8 @@ use Rattle.value.specs.Checks.{Vector}
 use Rattle.lanes.specs.declared.Bitwise.the-variants.{And, Or, Xor, Merge}
 use Rattle.join.specs.Joined.{joined, inverted}
 use Rattle.reduce.specs.Reduce.{reduceAnd, reduceOr, reduceXor}
-use Rattle.compare.specs.declared.Comparison.the-variants.{Equal, CaseEqual, CasezEqual, WildcardEqual}
-use Rattle.compare.specs.Compare.{compared}
+use Rattle.scan.specs.declared.Comparison.the-variants.{Equal, CaseEqual, CasezEqual, WildcardEqual}
+use Rattle.scan.specs.Compared.{compared}
 
 abbrev x : ℕ
 x = 2

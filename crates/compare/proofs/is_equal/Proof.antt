@@ -1,74 +1,66 @@
--- `compare::is_equal`: refused as checked, else by the inner function.
-use mathlib.Core.Path.{sym, ap, _∙_}
-use Rattle.refusal.specs.Outcome.{verdict}
+-- `compare::is_equal`: two vectors by the scan, else as reals.
+use mathlib.Core.Path.{_∙_}
 use Rattle.words.specs.Planes.{lent}
-use Rattle.real.proofs.Low.{accepted-whole}
+use Rattle.value.specs.declared.Operand.the-variants as operand
+use Rattle.compare.proofs.Reals.{vectors, real-left, real-right}
 use borrow.Author.Needs.{needs}
 use Rattle.compare.proofs.is_equal.Statement.{statement}
 use Rattle.compare.proofs.is_equal.Tie as tie
 
-check-operand-requires : tie.Need-check-operand-requires
-check-operand-requires c κs = search needs
+enum-known-a : tie.Need-enum-known-a
+enum-known-a c = search needs
 
-enum-known-r : tie.Need-enum-known-r
-enum-known-r c = search needs
+enum-known-b : tie.Need-enum-known-b
+enum-known-b c = search needs
+
+compare-vectors-requires : tie.Need-compare-vectors-requires
+compare-vectors-requires c κs = search needs
 
 enum-told : tie.Need-enum-told
 enum-told c = search needs
 
-check-operand-requires-2 : tie.Need-check-operand-requires-2
-check-operand-requires-2 c κs = search needs
-
-enum-known-r-2 : tie.Need-enum-known-r-2
-enum-known-r-2 c = search needs
+equal-reals-requires : tie.Need-equal-reals-requires
+equal-reals-requires c κs = search needs
 
 enum-told-2 : tie.Need-enum-told-2
 enum-told-2 c = search needs
 
-equal-operands-requires : tie.Need-equal-operands-requires
-equal-operands-requires c κs =
-    let o = c .before .before in
-    let t = o .before in
-    let k = t .before .before in
-    let a = k .before .before .before .before .before .args in (
-      accepted-whole (a .a) (lent (a .av .now) (a .au .now)) (sym (k .check-operand .ensures) ∙ ap verdict (t .enum-told .given .1)),
-      accepted-whole (a .b) (lent (a .bv .now) (a .bu .now)) (sym (o .check-operand2 .ensures) ∙ ap verdict (c .enum-told2 .given .1)),
-    )
+equal-reals-requires-2 : tie.Need-equal-reals-requires-2
+equal-reals-requires-2 c κs = search needs
 
 returns : tie.Need-returns
 returns c =
-    let t = c .before in
-    simp (sym (t .before .before .check-operand .ensures) ∙ ap verdict (t .r .given .1))
+    let b = c .before .before in
+    let k = b .before .before .before in
+    let a = k .before .before .before .before .before .before .args in
+    rw (k .a .given .1, b .b .given .1)
+    (c .compare-vectors .ensures ∙ vectors (k .a .given .0 .0) (b .b .given .0 .0) (lent (a .av .now) (a .au .now)) (lent (a .bv .now) (a .bu .now)))
 
 returns-2 : tie.Need-returns-2
 returns-2 c =
-    let u = c .before in
-    let o = u .before .before in
-    let t = o .before in
-    simp (sym (t .before .before .check-operand .ensures) ∙ ap verdict (t .enum-told .given .1), sym (o .check-operand2 .ensures) ∙ ap verdict (u .r2 .given .1))
+    let t = c .before in
+    let k = t .before .before .before in
+    let a = k .before .before .before .before .before .before .args in
+    rw (k .a .given .1)
+    (c .equal-reals .ensures ∙ real-right (operand.Vector (k .a .given .0 .0)) (a .b) (lent (a .av .now) (a .au .now)) (lent (a .bv .now) (a .bu .now)) _ (t .enum-told .given .1))
 
 returns-3 : tie.Need-returns-3
 returns-3 c =
-    let u = c .before in
-    let o = u .before .before in
-    let t = o .before in
-    simp (
-      sym (t .before .before .check-operand .ensures) ∙ ap verdict (t .enum-told .given .1),
-      sym (o .check-operand2 .ensures) ∙ ap verdict (u .enum-told2 .given .1),
-      c .equal-operands .ensures,
-    )
+    let t = c .before in
+    let a = t .before .before .before .before .before .before .args in
+    c .equal-reals2 .ensures ∙ real-left (a .a) (a .b) (lent (a .av .now) (a .au .now)) (lent (a .bv .now) (a .bu .now)) _ (t .enum-told2 .given .1)
 
 pub is-equal-spec : {M : Type 1} → statement M
 is-equal-spec =
     tie.close
     (tie.spec
-    check-operand-requires
-    enum-known-r
+    enum-known-a
+    enum-known-b
+    compare-vectors-requires
     enum-told
-    check-operand-requires-2
-    enum-known-r-2
+    equal-reals-requires
     enum-told-2
-    equal-operands-requires
+    equal-reals-requires-2
     returns
     returns-2
     returns-3)

@@ -1,0 +1,189 @@
+-- The places of one word of each operand, as ones in a word.
+--     both           lane formulas that pass the computed test mark the places of a word
+--     word-marked    the marks of word k, cut off at the width, are not 0 where a place of word k passes the test
+--     next, left     one word more without a mismatch; the scan is left at a mismatch
+--     next-whole     the same by words straight from the planes, where both operands have them whole
+--     same-start     words that are known and the same hold no mismatch and leave nothing open
+--     one-word       the answer of operands that have one word each
+use mathlib.Core.Path.{_≡_, refl, sym, ap, ap₂, _∙_}
+use mathlib.Core.Bool.{Bool, true, false, not, _||_, cond}
+use mathlib.Core.List.{List}
+use Prim.Native.Nat.{ℕ, zero, suc, _+_, _-_, _*_, _%_, _^_, _≤_, _<_, min}
+use native.Mathlib.Nat.{zero-add}
+use native.Mathlib.Numerals.{add-one}
+use native.Mathlib.Omega.{arith}
+use lib.Dec.{T, eqb, lit<}
+use lib.Pow.{pow-pos}
+use lib.Bits.{bitAnd, bitOr, bitXor, and-mask, and-le-l, and-le-r, or-zero-r, or-add-and, xor-add-and}
+use lib.ListN.{getD}
+use Rattle.bit.specs.declared.LogicBit.{LogicBit}
+use Rattle.bit.specs.declared.LogicBit.the-variants.{Zero, One}
+use Rattle.words.specs.declared.Word.{Word}
+use Rattle.words.specs.Vector.{bitAt, tabulate, pack}
+use Rattle.words.specs.Planes.{stored, bitOf, fromPlanes, lent}
+use Rattle.words.proofs.Digits.{pack-bit, pack-lt, pack-ext, bit-of-zero}
+use Rattle.words.proofs.Planes.{getD-tabulate, getD-tabulate-out, length-tabulate}
+use Rattle.words.proofs.Lanes.{Lane, word, gives, lane}
+use Rattle.words.proofs.Extend.{wordBy, cut}
+use Rattle.reduce.specs.Reduce.{any}
+use Rattle.reduce.proofs.Gather.{gather-cong}
+use Rattle.reduce.proofs.Places.{some, any-some, nonzero, inside}
+use Rattle.reduce.proofs.Scan.{start, more, found}
+use Rattle.extension.specs.declared.Extent.{Extent}
+use Rattle.scan.specs.declared.Comparison.{Comparison}
+use Rattle.scan.specs.declared.inner.Marks.{Marks}
+use Rattle.scan.specs.Compared.{mismatch, unsure, onPair, decided, placesOver, wordPlaces, marked, marksOf, cutMarks, unlike}
+use Rattle.scan.proofs.Places.{zeros, zero-apart, zero-unsure, one-apart, one-unsure, answered, Compared, by-tests, apart}
+
+abbrev pub marksBy : ℕ → ℕ → Marks
+marksBy m d = record { apart = m; doubt = d }
+
+pub both : (op : Comparison) (v u : Lane) → T (gives v (λ a b. cond (mismatch op a b) 1 0)) → T (gives u (λ a b. cond (unsure op a b) 1 0))
+    → (a b : Word) → a .value < 2 ^ 64 → a .unknown < 2 ^ 64 → b .value < 2 ^ 64 → b .unknown < 2 ^ 64
+    → marksBy (word v (a .value) (a .unknown) (b .value) (b .unknown)) (word u (a .value) (a .unknown) (b .value) (b .unknown)) ≡ marksOf op a b
+unfolding marked
+both op v u tv tu a b hp hq hr hs =
+    ap₂ marksBy
+    (lane (a .value) (a .unknown) (b .value) (b .unknown) hp hq hr hs v (λ x y. cond (mismatch op x y) 1 0) tv)
+    (lane (a .value) (a .unknown) (b .value) (b .unknown) hp hq hr hs u (λ x y. cond (unsure op x y) 1 0) tu)
+
+digit-lt : (z : Bool) → cond z 1 0 < 2
+digit-lt true = lit< tt
+digit-lt false = lit< tt
+
+digit-one : (z : Bool) → eqb (cond z 1 0) 1 ≡ z
+digit-one true = refl
+digit-one false = refl
+
+-- the ones of word k that lie below the width w
+abbrev pub below : ℕ → ℕ → ℕ → ℕ
+below w k m = bitAnd m (2 ^ min 64 (w - k * 64) - 1)
+
+module _ (t : LogicBit → LogicBit → Bool) (fails : t Zero Zero ≡ false) (f g : ℕ → LogicBit) (w k : ℕ) (x y : Word)
+    (hx : (j : ℕ) → j < 64 → bitOf x j ≡ f (k * 64 + j)) (hy : (j : ℕ) → j < 64 → bitOf y j ≡ g (k * 64 + j)) where
+  abbrev pair : ℕ → LogicBit × LogicBit
+  pair i = (f i, g i)
+
+  -- place j of word k passes the test
+  abbrev hit : ℕ → Bool
+  hit j = onPair t (getD (tabulate w pair) (k * 64 + j) zeros)
+
+  pub word-marked : not (eqb (below w k (marked t x y)) 0) ≡ some 64 (λ j. onPair t (getD (tabulate w (λ i. (f i, g i))) (k * 64 + j) zeros))
+  unfolding marked
+  word-marked =
+      ap (λ (m : ℕ). not (eqb m 0))
+      (cut w k (min 64 (w - k * 64)) (λ j. cond (t (bitOf x j) (bitOf y j)) 1 0) (λ j. cond (hit j) 1 0) refl
+      (λ j _. digit-lt (t (bitOf x j) (bitOf y j)))
+      (λ j l m. ap (λ (z : Bool). cond z 1 0) (ap₂ t (hx j l) (hy j l) ∙ sym (ap (onPair t) (getD-tabulate w pair (k * 64 + j) zeros m))))
+      (λ j m. ap (λ (z : Bool). cond z 1 0) (ap (onPair t) (getD-tabulate-out w pair (k * 64 + j) zeros m) ∙ fails)))
+      ∙ nonzero 64 (pack 64 (λ j. cond (hit j) 1 0)) (pack-lt 64 (λ j. cond (hit j) 1 0) (λ j _. digit-lt (hit j)))
+      ∙ gather-cong _||_ false 64 (λ j. eqb (bitAt (pack 64 (λ j. cond (hit j) 1 0)) j) 1) hit
+      (λ j l. ap (λ (d : ℕ). eqb d 1) (pack-bit 64 (λ j. cond (hit j) 1 0) (λ j _. digit-lt (hit j)) j l) ∙ digit-one (hit j))
+
+marked-lt : (t : LogicBit → LogicBit → Bool) (x y : Word) → marked t x y < 2 ^ 64
+unfolding marked
+marked-lt t x y = pack-lt 64 (λ j. cond (t (bitOf x j) (bitOf y j)) 1 0) (λ j _. digit-lt (t (bitOf x j) (bitOf y j)))
+
+uncut : (w k m : ℕ) → k * 64 + 64 ≤ w → m < 2 ^ 64 → m ≡ below w k m
+uncut w k m h l =
+    let e : 64 ≡ min 64 (w - k * 64) = omega arith in
+    let z : m ≡ m % 2 ^ 64 = omega arith in
+    z ∙ sym (and-mask m 64) ∙ ap (λ (n : ℕ). bitAnd m (2 ^ n - 1)) e
+
+-- nothing is cut off the marks of a word that lies below the width
+whole : (op : Comparison) (w k : ℕ) (x y : Word) (m : Marks) → m ≡ marksOf op x y → k * 64 + 64 ≤ w → m ≡ cutMarks w k (marksOf op x y)
+unfolding cutMarks
+whole op w k x y m e h = e ∙ ap₂ marksBy (uncut w k _ h (marked-lt (mismatch op) x y)) (uncut w k _ h (marked-lt (unsure op) x y))
+
+-- two words that have no one together have none each
+pub or-none : (x y : ℕ) → bitOr x y ≡ 0 → (x ≡ 0) × (y ≡ 0)
+or-none x y z = (omega (arith, z, or-add-and x y, and-le-r x y), omega (arith, z, or-add-and x y, and-le-l x y))
+
+-- words without a one in `unlike`
+same-words : (p q r s : ℕ) → bitOr (bitOr (bitXor p r) q) s ≡ 0 → (p ≡ r) × ((q ≡ 0) × (s ≡ 0))
+same-words p q r s z =
+    let h = or-none (bitOr (bitXor p r) q) s z in
+    let g = or-none (bitXor p r) q (h .0) in
+    (omega (arith, g .0, xor-add-and p r, and-le-l p r, and-le-r p r), (g .1, h .1))
+
+known-same : (t : LogicBit → LogicBit → Bool) → t Zero Zero ≡ false → t One One ≡ false → (v : ℕ) → t (stored v 0) (stored v 0) ≡ false
+known-same t z o zero = z
+known-same t z o (suc v) = o
+
+unmarked : (t : LogicBit → LogicBit → Bool) → t Zero Zero ≡ false → t One One ≡ false → (v : ℕ) → marked t (wordBy v 0) (wordBy v 0) ≡ 0
+unfolding marked
+unmarked t z o v =
+    sym (pack-ext 64 0 _ (pow-pos 64)
+    (λ j _. bit-of-zero j
+    ∙ sym (ap (λ (b : Bool). cond b 1 0)
+    (ap (λ (u : ℕ). t (stored (bitAt v j) u) (stored (bitAt v j) u)) (bit-of-zero j) ∙ known-same t z o (bitAt v j)))))
+
+nothing : (op : Comparison) (v : ℕ) → marksOf op (wordBy v 0) (wordBy v 0) ≡ marksBy 0 0
+nothing op v = ap₂ marksBy (unmarked (mismatch op) (zero-apart op) (one-apart op) v) (unmarked (unsure op) (zero-unsure op) (one-unsure op) v)
+
+-- one word more of a scan, by word k of both operands and its marks
+module _ (op : Comparison) (f g : ℕ → LogicBit) (w k : ℕ) (x y : Word)
+    (hx : (j : ℕ) → j < 64 → bitOf x j ≡ f (k * 64 + j)) (hy : (j : ℕ) → j < 64 → bitOf y j ≡ g (k * 64 + j))
+    (m : Marks) (hm : m ≡ cutMarks w k (marksOf op x y)) (d : ℕ) (s : Compared op (tabulate w (λ i. (f i, g i))) d k) where
+  abbrev pairs : List (LogicBit × LogicBit)
+  pairs = tabulate w (λ i. (f i, g i))
+
+  told : (t : LogicBit → LogicBit → Bool) → t Zero Zero ≡ false → (n : ℕ) → n ≡ below w k (marked t x y)
+      → not (eqb n 0) ≡ some 64 (λ j. onPair t (getD pairs (k * 64 + j) zeros))
+  told t fails n e = ap (λ (n : ℕ). not (eqb n 0)) e ∙ word-marked t fails f g w k x y hx hy
+
+  apart-told : not (eqb (m .apart) 0) ≡ some 64 (λ j. onPair (mismatch op) (getD pairs (k * 64 + j) zeros))
+  unfolding cutMarks
+  apart-told = told (mismatch op) (zero-apart op) (m .apart) (ap (λ (m : Marks). m .apart) hm)
+
+  doubt-told : not (eqb (m .doubt) 0) ≡ some 64 (λ j. onPair (unsure op) (getD pairs (k * 64 + j) zeros))
+  unfolding cutMarks
+  doubt-told = told (unsure op) (zero-unsure op) (m .doubt) (ap (λ (m : Marks). m .doubt) hm)
+
+  pub next : m .apart ≡ 0 → Compared op (tabulate w (λ i. (f i, g i))) (bitOr d (m .doubt)) (k + 1)
+  next z = more (onPair (mismatch op)) (onPair (unsure op)) zeros zeros pairs (zero-apart op) d k s (m .apart) apart-told z (m .doubt) doubt-told
+
+  pub left : (m .apart ≡ 0 → ⊥) → answered true d ≡ decided op (tabulate w (λ i. (f i, g i)))
+  left z = apart op pairs d (found (onPair (mismatch op)) (onPair (unsure op)) zeros zeros pairs (zero-apart op) d k s (m .apart) apart-told z)
+
+-- ---- words straight from the planes
+
+-- word k of two planes
+abbrev wordIn : List ℕ → List ℕ → ℕ → Word
+wordIn v u k = wordBy (getD v k 0) (getD u k 0)
+
+module _ (op : Comparison) (w : ℕ) (a b : Extent) (av au bv bu : List ℕ) where
+  pub next-whole : (k : ℕ) → k * 64 + 64 ≤ w → k * 64 + 64 ≤ a .width → k * 64 + 64 ≤ b .width
+      → (m : Marks) → m ≡ marksOf op (wordBy (getD av k 0) (getD au k 0)) (wordBy (getD bv k 0) (getD bu k 0)) → m .apart ≡ 0
+      → (d : ℕ) → Compared op (placesOver w a (lent av au) b (lent bv bu)) d k
+      → Compared op (placesOver w a (lent av au) b (lent bv bu)) (bitOr d (m .doubt)) (k + 1)
+  next-whole k hw ha hb m e z d s =
+      next op (λ i. getD (fromPlanes (a .width) av au) i (a .beyond)) (λ i. getD (fromPlanes (b .width) bv bu) i (b .beyond)) w k
+      (wordIn av au k) (wordIn bv bu k)
+      (λ j l. sym (inside (a .width) av au (a .beyond) k j l (omega arith)))
+      (λ j l. sym (inside (b .width) bv bu (b .beyond) k j l (omega arith)))
+      m (whole op w k (wordIn av au k) (wordIn bv bu k) m e hw) d s z
+
+  pub same-start : (k : ℕ) → k * 64 ≤ w → k * 64 ≤ a .width → k * 64 ≤ b .width → ((i : ℕ) → i < k → unlike av au bv bu i ≡ 0)
+      → Compared op (placesOver w a (lent av au) b (lent bv bu)) 0 k
+  same-start zero hw ha hb h = start _ _ _ _ _
+  same-start (suc k) hw ha hb h =
+      let q = same-words (getD av k 0) (getD au k 0) (getD bv k 0) (getD bu k 0) (h k (omega arith)) in
+      let e : marksOf op (wordIn av au k) (wordIn bv bu k) ≡ marksBy 0 0 =
+      (λ i. marksOf op (wordBy (q .0 i) (q .1 .0 i)) (wordBy (getD bv k 0) (q .1 .1 i))) ∙ nothing op (getD bv k 0) in
+      rw (sym (add-one k)) (rw (or-zero-r 0) at
+      (next-whole k (omega arith) (omega arith) (omega arith) (marksBy 0 0) (sym e) refl 0 (same-start k (omega arith) (omega arith) (omega arith) (λ i l. h i (omega arith)))))
+
+module _ (w : ℕ) (l : w ≤ 64) (a b : Word) where
+  some-place : (t : LogicBit → LogicBit → Bool) → t Zero Zero ≡ false → any (onPair t) (wordPlaces w a b) ≡ not (eqb (below w 0 (marked t a b)) 0)
+  some-place t fails =
+      any-some (onPair t) zeros fails (wordPlaces w a b) 64 (rw length-tabulate l)
+      ∙ gather-cong _||_ false 64 (λ j. onPair t (getD (wordPlaces w a b) j zeros)) (λ j. onPair t (getD (wordPlaces w a b) (0 * 64 + j) zeros))
+      (λ j _. ap (λ (i : ℕ). onPair t (getD (wordPlaces w a b) i zeros)) (sym (zero-add j)))
+      ∙ sym (word-marked t fails (bitOf a) (bitOf b) w 0 a b (λ j _. ap (bitOf a) (sym (zero-add j))) (λ j _. ap (bitOf b) (sym (zero-add j))))
+
+  pub one-word : (op : Comparison) (m : Marks) → m ≡ cutMarks w 0 (marksOf op a b) → answered (not (eqb (m .apart) 0)) (m .doubt) ≡ decided op (wordPlaces w a b)
+  unfolding cutMarks
+  one-word op m e =
+      ap (λ (m : Marks). answered (not (eqb (m .apart) 0)) (m .doubt)) e
+      ∙ by-tests op (wordPlaces w a b) _ (below w 0 (marked (unsure op) a b)) (some-place (mismatch op) (zero-apart op)) (some-place (unsure op) (zero-unsure op))
