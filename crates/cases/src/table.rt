@@ -9,7 +9,7 @@ use crate::text::digits;
 use crate::text::extent_of;
 use crate::text::field;
 use crate::text::load;
-use crate::text::operand;
+use crate::text::operand_of;
 use crate::text::until;
 use libc::STDOUT_FILENO;
 
@@ -42,8 +42,8 @@ fn on_output(line: &[u8], av: &[u64], au: &[u64], bv: &[u64], bu: &[u64]) -> boo
     let ov = &mut value[0..m];
     let ou = &mut unknown[0..n];
     lend(s, ov, ou);
-    let x = operand(field(line, 3));
-    let y = operand(field(line, 4));
+    let x = operand_of(field(line, 3));
+    let y = operand_of(field(line, 4));
     let a = x.header;
     let b = y.header;
     let r = into(field(line, 2), a, av, au, b, bv, bu, ov, ou);
@@ -69,8 +69,8 @@ fn on_operands(line: &[u8], av: &[u64], au: &[u64]) -> bool {
     let bv = &mut value[0..m];
     let bu = &mut unknown[0..n];
     lend(s, bv, bu);
-    match of_one(name, operand(left), av, au) {
-        Answer::NoCall => match of_two(name, operand(left), av, au, operand(s), bv, bu) {
+    match of_one(name, operand_of(left), av, au) {
+        Answer::NoCall => match of_two(name, operand_of(left), av, au, operand_of(s), bv, bu) {
             Answer::NoCall => on_output(line, av, au, bv, bu),
             r => is_answer(field(line, 0), r, left, av, au),
         },

@@ -194,7 +194,7 @@ pub(crate) struct Operand {
     pub(crate) real: f64,
 }
 
-pub(crate) fn operand(s: &[u8]) -> Operand {
+pub(crate) fn operand_of(s: &[u8]) -> Operand {
     let e = extent_of(s);
     let header = e.header;
     Operand {
