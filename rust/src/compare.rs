@@ -6,7 +6,10 @@ use crate::{raw, Header, LogicBit, Operand, Refusal};
 /// 0 if some place holds two different known bits, else x if an operand has an unknown bit, else 1; fills are stretched first. Beside a real a
 /// vector is the number of its low 64 bits, unknown ones taken as 0, and the two are compared as IEEE 754 does.
 pub fn is_equal(a: Operand, av: &[u64], au: &[u64], b: Operand, bv: &[u64], bu: &[u64]) -> Result<LogicBit, Refusal> {
-    of_operands(raw::vowherunga_is_equal, (a, av, au), (b, bv, bu))
+    match (a, b) {
+        (Operand::Vector(a), Operand::Vector(b)) => of_vectors(raw::vowherunga_equal_vectors, (a, av, au), (b, bv, bu)),
+        _ => of_operands(raw::vowherunga_is_equal, (a, av, au), (b, bv, bu)),
+    }
 }
 
 #[inline(always)]

@@ -161,7 +161,7 @@ alike! {
 }
 
 alike! {
-    BitOfVectors: vowherunga_case_eq, vowherunga_casez_eq, vowherunga_casex_eq, vowherunga_wildcard_eq: (
+    BitOfVectors: vowherunga_equal_vectors, vowherunga_case_eq, vowherunga_casez_eq, vowherunga_casex_eq, vowherunga_wildcard_eq: (
         a: Header,
         av: *const u64, av_len: usize,
         au: *const u64, au_len: usize,

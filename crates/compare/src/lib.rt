@@ -14,7 +14,7 @@ ghost use Rattle.scan.specs.declared.Comparison.the-variants.{CaseEqual, CasezE
 ghost use Rattle.compare.specs.Compare.{comparison, realEquality, isEqual};
 
 // The comparison of two vectors of any widths.
-fn compare_vectors(
+pub fn compare_vectors(
     op: Comparison,
     a: Header,
     av: &[u64],

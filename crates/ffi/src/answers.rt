@@ -3,9 +3,11 @@ use coded::BitResult;
 use coded::bit_result;
 use coded::operand;
 use coded::truth_result;
+use scan::Comparison;
 use value::Header;
 ghost use mathlib.Core.Path.{_≡_};
 ghost use Rattle.words.specs.Planes.{lent};
+ghost use Rattle.value.specs.declared.Operand.the-variants.{Vector};
 ghost use Rattle.reduce.specs.Reduce.{reduceAnd, reduceOr, reduceXor, reduction, isNonzero, logicAnd, logicOr};
 ghost use Rattle.scan.specs.declared.Comparison.the-variants.{CaseEqual, CasezEqual, CasexEqual, WildcardEqual};
 ghost use Rattle.compare.specs.Compare.{comparison, isEqual};
@@ -111,6 +113,21 @@ pub extern "C" fn vowherunga_is_equal(
     let x = operand(a_is_real, a, a_real);
     let y = operand(b_is_real, b, b_real);
     bit_result(compare::is_equal(x, av, au, y, bv, bu))
+}
+
+// `compare::is_equal` of two vectors
+#[no_mangle]
+pub extern "C" fn vowherunga_equal_vectors(
+    a: Header,
+    av: &[u64],
+    au: &[u64],
+    b: Header,
+    bv: &[u64],
+    bu: &[u64],
+) -> BitResult
+    ensures { λ r. ⌜ r ≡ codedBit (isEqual (Vector a) (lent (now (av .entry)) (now (au .entry))) (Vector b) (lent (now (bv .entry)) (now (bu .entry)))) ⌝ }
+{
+    bit_result(compare::compare_vectors(Comparison::Equal, a, av, au, b, bv, bu))
 }
 
 // `compare::case_eq`
