@@ -1,5 +1,5 @@
--- How an operator reads an operand beside another: document 01, "Result vector" and "Answer bit". Which operator extends by the top bit and
--- which stretches a fill is told by the two tables, and nowhere else.
+-- How an operator reads an operand beside another, at the larger width: document 01, "Result vector" and "Answer bit" (IEEE 1800-2017, 11.6.1;
+-- a fill, 5.7.1). Which operator extends by the top bit and which stretches a fill is told by the two tables, and nowhere else.
 use mathlib.Core.Bool.{Bool, true, false, not, _&&_, cond}
 use mathlib.Core.List.{List}
 use Prim.Native.Nat.{ℕ, _-_, max}
