@@ -1,10 +1,8 @@
-// The calls of operators, whose operands are only read.
+// The calls of operators, whose operands are only read, by their numbers in `text::number_of`.
 use crate::answer::Answer;
 use crate::answer::of_bit;
 use crate::answer::of_vector;
 use crate::text::Operand;
-use crate::text::field;
-use check::same;
 use ffi::answers::vowherunga_case_eq;
 use ffi::answers::vowherunga_casex_eq;
 use ffi::answers::vowherunga_casez_eq;
@@ -24,26 +22,19 @@ use ffi::vectors::vowherunga_merge_unknown;
 use value::Header;
 
 // An answer bit of one operand.
-pub(crate) fn of_one(name: &[u8], a: Operand, av: &[u64], au: &[u64]) -> Answer {
+pub(crate) fn of_one(call: usize, a: Operand, av: &[u64], au: &[u64]) -> Answer {
     let h = a.header;
-    if same(name, b"reduce_and") {
-        return of_bit(vowherunga_reduce_and(h, av, au));
+    match call {
+        10 => of_bit(vowherunga_reduce_and(h, av, au)),
+        11 => of_bit(vowherunga_reduce_or(h, av, au)),
+        12 => of_bit(vowherunga_reduce_xor(h, av, au)),
+        _ => of_bit(vowherunga_is_nonzero(a.is_real, h, a.real, av, au)),
     }
-    if same(name, b"reduce_or") {
-        return of_bit(vowherunga_reduce_or(h, av, au));
-    }
-    if same(name, b"reduce_xor") {
-        return of_bit(vowherunga_reduce_xor(h, av, au));
-    }
-    if same(name, b"is_nonzero") {
-        return of_bit(vowherunga_is_nonzero(a.is_real, h, a.real, av, au));
-    }
-    Answer::NoCall
 }
 
 // An answer bit of two operands, each a vector or a real.
 pub(crate) fn of_two(
-    name: &[u8],
+    call: usize,
     a: Operand,
     av: &[u64],
     au: &[u64],
@@ -53,54 +44,20 @@ pub(crate) fn of_two(
 ) -> Answer {
     let x = a.header;
     let y = b.header;
-    if same(name, b"logic_and") {
-        return of_bit(vowherunga_logic_and(
-            a.is_real,
-            x,
-            a.real,
-            av,
-            au,
-            b.is_real,
-            y,
-            b.real,
-            bv,
-            bu,
-        ));
+    let p = a.is_real;
+    let q = b.is_real;
+    let r = a.real;
+    let s = b.real;
+    match call {
+        14 => of_bit(vowherunga_logic_and(p, x, r, av, au, q, y, s, bv, bu)),
+        15 => of_bit(vowherunga_logic_or(p, x, r, av, au, q, y, s, bv, bu)),
+        _ => of_bit(vowherunga_is_equal(p, x, r, av, au, q, y, s, bv, bu)),
     }
-    if same(name, b"logic_or") {
-        return of_bit(vowherunga_logic_or(
-            a.is_real,
-            x,
-            a.real,
-            av,
-            au,
-            b.is_real,
-            y,
-            b.real,
-            bv,
-            bu,
-        ));
-    }
-    if same(name, b"is_equal") {
-        return of_bit(vowherunga_is_equal(
-            a.is_real,
-            x,
-            a.real,
-            av,
-            au,
-            b.is_real,
-            y,
-            b.real,
-            bv,
-            bu,
-        ));
-    }
-    of_vectors(name, x, av, au, y, bv, bu)
 }
 
 // An answer bit of two vectors.
-fn of_vectors(
-    name: &[u8],
+pub(crate) fn of_vectors(
+    call: usize,
     a: Header,
     av: &[u64],
     au: &[u64],
@@ -108,24 +65,17 @@ fn of_vectors(
     bv: &[u64],
     bu: &[u64],
 ) -> Answer {
-    if same(name, b"case_eq") {
-        return of_bit(vowherunga_case_eq(a, av, au, b, bv, bu));
+    match call {
+        17 => of_bit(vowherunga_case_eq(a, av, au, b, bv, bu)),
+        18 => of_bit(vowherunga_casez_eq(a, av, au, b, bv, bu)),
+        19 => of_bit(vowherunga_casex_eq(a, av, au, b, bv, bu)),
+        _ => of_bit(vowherunga_wildcard_eq(a, av, au, b, bv, bu)),
     }
-    if same(name, b"casez_eq") {
-        return of_bit(vowherunga_casez_eq(a, av, au, b, bv, bu));
-    }
-    if same(name, b"casex_eq") {
-        return of_bit(vowherunga_casex_eq(a, av, au, b, bv, bu));
-    }
-    if same(name, b"wildcard_eq") {
-        return of_bit(vowherunga_wildcard_eq(a, av, au, b, bv, bu));
-    }
-    Answer::NoCall
 }
 
-// A vector of two operands, or of the first.
-pub(crate) fn into(
-    name: &[u8],
+// A vector of two operands.
+fn join(
+    call: usize,
     a: Header,
     av: &[u64],
     au: &[u64],
@@ -135,19 +85,30 @@ pub(crate) fn into(
     ov: &mut [u64],
     ou: &mut [u64],
 ) -> Answer {
-    if same(name, b"bitwise_and") {
-        return of_vector(vowherunga_bitwise_and(a, av, au, b, bv, bu, ov, ou));
+    match call {
+        21 => of_vector(vowherunga_bitwise_and(a, av, au, b, bv, bu, ov, ou)),
+        22 => of_vector(vowherunga_bitwise_or(a, av, au, b, bv, bu, ov, ou)),
+        23 => of_vector(vowherunga_bitwise_xor(a, av, au, b, bv, bu, ov, ou)),
+        _ => of_vector(vowherunga_merge_unknown(a, av, au, b, bv, bu, ov, ou)),
     }
-    if same(name, b"bitwise_or") {
-        return of_vector(vowherunga_bitwise_or(a, av, au, b, bv, bu, ov, ou));
+}
+
+// A vector of two operands, or of the first.
+pub(crate) fn into(
+    call: usize,
+    a: Header,
+    av: &[u64],
+    au: &[u64],
+    b: Header,
+    bv: &[u64],
+    bu: &[u64],
+    ov: &mut [u64],
+    ou: &mut [u64],
+) -> Answer {
+    if call < 25 {
+        return join(call, a, av, au, b, bv, bu, ov, ou);
     }
-    if same(name, b"bitwise_xor") {
-        return of_vector(vowherunga_bitwise_xor(a, av, au, b, bv, bu, ov, ou));
-    }
-    if same(name, b"merge_unknown") {
-        return of_vector(vowherunga_merge_unknown(a, av, au, b, bv, bu, ov, ou));
-    }
-    if same(name, b"bitwise_not") {
+    if call == 25 {
         return of_vector(vowherunga_bitwise_not(a, av, au, ov, ou));
     }
     Answer::NoCall

@@ -1,14 +1,15 @@
 // A table of calls, worked line by line.
-use crate::answer::Answer;
 use crate::answer::is_answer;
-use crate::bits::call;
+use crate::bits::on_vector;
 use crate::operators::into;
 use crate::operators::of_one;
 use crate::operators::of_two;
+use crate::operators::of_vectors;
 use crate::text::digits;
 use crate::text::extent_of;
 use crate::text::field;
 use crate::text::load;
+use crate::text::number_of;
 use crate::text::operand_of;
 use crate::text::until;
 use libc::STDOUT_FILENO;
@@ -21,7 +22,7 @@ fn lend(vector: &[u8], value: &mut [u64], unknown: &mut [u64]) {
 }
 
 // The operators with a result: the last vector of the line is what the planes lent for it hold before the call.
-fn on_output(line: &[u8], av: &[u64], au: &[u64], bv: &[u64], bu: &[u64]) -> bool {
+fn on_output(call: usize, line: &[u8], av: &[u64], au: &[u64], bv: &[u64], bu: &[u64]) -> bool {
     let third = field(line, 5);
     let s = if third.len() == 0 {
         field(line, 4)
@@ -46,14 +47,32 @@ fn on_output(line: &[u8], av: &[u64], au: &[u64], bv: &[u64], bu: &[u64]) -> boo
     let y = operand_of(field(line, 4));
     let a = x.header;
     let b = y.header;
-    let r = into(field(line, 2), a, av, au, b, bv, bu, ov, ou);
+    let r = into(call, a, av, au, b, bv, bu, ov, ou);
     is_answer(field(line, 0), r, s, ov, ou)
 }
 
-// The operators, whose left operand is lent.
-fn on_operands(line: &[u8], av: &[u64], au: &[u64]) -> bool {
-    let name = field(line, 2);
+// The operators, whose operands are lent.
+fn on_operands(call: usize, line: &[u8], av: &[u64], au: &[u64], bv: &[u64], bu: &[u64]) -> bool {
+    if 20 < call {
+        return on_output(call, line, av, au, bv, bu);
+    }
     let left = field(line, 3);
+    let x = operand_of(left);
+    let y = operand_of(field(line, 4));
+    let a = x.header;
+    let b = y.header;
+    let r = if call < 14 {
+        of_one(call, x, av, au)
+    } else if call < 17 {
+        of_two(call, x, av, au, y, bv, bu)
+    } else {
+        of_vectors(call, a, av, au, b, bv, bu)
+    };
+    is_answer(field(line, 0), r, left, av, au)
+}
+
+// The operators, whose left operand is lent.
+fn on_left(call: usize, line: &[u8], av: &[u64], au: &[u64]) -> bool {
     let s = field(line, 4);
     let e = extent_of(s);
     let m = e.value;
@@ -69,24 +88,20 @@ fn on_operands(line: &[u8], av: &[u64], au: &[u64]) -> bool {
     let bv = &mut value[0..m];
     let bu = &mut unknown[0..n];
     lend(s, bv, bu);
-    match of_one(name, operand_of(left), av, au) {
-        Answer::NoCall => match of_two(name, operand_of(left), av, au, operand_of(s), bv, bu) {
-            Answer::NoCall => on_output(line, av, au, bv, bu),
-            r => is_answer(field(line, 0), r, left, av, au),
-        },
-        r => is_answer(field(line, 0), r, left, av, au),
-    }
+    on_operands(call, line, av, au, bv, bu)
 }
 
 fn on_planes(line: &[u8], value: &mut [u64], unknown: &mut [u64]) -> bool {
+    let call = number_of(field(line, 2));
     let s = field(line, 3);
     lend(s, value, unknown);
+    if 9 < call {
+        return on_left(call, line, value, unknown);
+    }
     let e = extent_of(s);
     let h = e.header;
-    match call(line, h, value, unknown) {
-        Answer::NoCall => on_operands(line, value, unknown),
-        r => is_answer(field(line, 0), r, s, value, unknown),
-    }
+    let r = on_vector(call, line, h, value, unknown);
+    is_answer(field(line, 0), r, s, value, unknown)
 }
 
 // Whether the call of a line has the line's answer.

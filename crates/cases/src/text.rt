@@ -1,4 +1,5 @@
 // The parts of a line, numbers, and vectors as text.
+use check::same;
 use value::Header;
 use words::Word;
 ghost use Prim.Native.Nat.{_≤_, _<_};
@@ -45,6 +46,20 @@ fn part(s: &[u8], k: usize, byte: u8) -> &[u8] {
 
 pub(crate) fn field(line: &[u8], k: usize) -> &[u8] {
     part(line, k, b' ')
+}
+
+// The number of a call: the place of its name here, or the count of names.
+pub(crate) fn number_of(name: &[u8]) -> usize {
+    let names =
+        b"get extract64 set splice64 splice_bits64 mask_top new zero from_u64 from_real_wrapped reduce_and reduce_or reduce_xor is_nonzero logic_and logic_or is_equal case_eq casez_eq casex_eq wildcard_eq bitwise_and bitwise_or bitwise_xor merge_unknown bitwise_not";
+    let mut k = 0;
+    while k < 26 {
+        if same(field(names, k), name) {
+            return k;
+        }
+        k += 1;
+    }
+    26
 }
 
 // A decimal number below 2^64.
