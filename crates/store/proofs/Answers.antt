@@ -1,0 +1,49 @@
+-- What an answer behind a check tells of the check.
+--     answer-given, answer-refused     a result: the check accepted; a refusal: the check's own
+--     vector-accepts                   a vector in order is accepted
+use mathlib.Core.Path.{_≡_, refl, ap}
+use mathlib.Core.Bool.{Bool, true, false, _&&_}
+use Prim.Native.Nat.{ℕ}
+use native.Mathlib.Omega.{arith}
+use borrow.Author.Tests.{le-ltb, eq-eqb, ne-eqb}
+use lib.Dec.{T, eqb}
+use Rattle.refusal.specs.Outcome.{Answer, after}
+use Rattle.refusal.specs.Outcome.Answer.{given, refused}
+use Rattle.words.specs.Planes.{Planes, clearAbove}
+use Rattle.words.proofs.Top.{clear-all}
+use Rattle.planes.specs.Entries.{maxWidth, checkLengths, checkPlanes}
+use Rattle.value.specs.declared.Header.{Header}
+use Rattle.value.specs.Checks.{checkVector}
+use Rattle.value.proofs.Checks.{Sound}
+
+pub both : (a b : Bool) → a && b ≡ true → (a ≡ true) × (b ≡ true)
+both true b h = (refl, h)
+both false b h = let z : _≡_ {A = ℕ} 0 1 = cc in absurd (omega arith)
+
+pub answer-given : (x : Answer Unit) (m n : ℕ) → after x (given m) ≡ given n → (x ≡ given tt) × (m ≡ n)
+answer-given (given t) m n h = (refl, cc)
+answer-given (refused k) m n h = let z : _≡_ {A = ℕ} 0 1 = cc in absurd (omega arith)
+
+pub answer-refused : (x : Answer Unit) (m n : ℕ) → after x (given m) ≡ refused n → x ≡ refused n
+answer-refused (given t) m n h = let z : _≡_ {A = ℕ} 0 1 = cc in absurd (omega arith)
+answer-refused (refused k) m n h = let e : k ≡ n = cc in ap refused e
+
+is-true : (b : Bool) → T b → b ≡ true
+is-true true t = refl
+is-true false t = absurd t
+
+no-fill : (f : Bool) (w : ℕ) → (f ≡ true → w ≡ 0 → ⊥) → f && eqb w 0 ≡ false
+no-fill true w h = ne-eqb w 0 (h refl)
+no-fill false w h = refl
+
+pub vector-accepts : (h : Header) (p : Planes) → Sound h p → checkVector h p ≡ given tt
+unfolding checkVector checkPlanes checkLengths
+vector-accepts h p s =
+    simp (
+      le-ltb maxWidth (h .width) (s .planes .narrow),
+      eq-eqb _ _ (s .planes .value-plane .count),
+      eq-eqb _ _ (s .planes .unknown-plane .count),
+      is-true (clearAbove (h .width) (p .value)) (clear-all (h .width) (p .value) (s .planes .value-plane .clear)),
+      is-true (clearAbove (h .width) (p .unknown)) (clear-all (h .width) (p .unknown) (s .planes .unknown-plane .clear)),
+      no-fill (h .«is_fill») (h .width) (s .fill),
+    )

@@ -1,0 +1,205 @@
+-- What a state holds, and how it lasts.
+--     cell-read       a filled cell lies within the arenas, and its planes are those of a vector
+--     empty-holds     an empty store holds no cells
+--     append-holds    a vector put behind the last cell is held behind the others
+--     input-holds     an accepted input is held behind the others
+use mathlib.Core.Path.{_≡_, refl, sym, ap, ap₂, _∙_, subst}
+use mathlib.Core.Bool.{Bool, true, false, cond}
+use mathlib.Core.List.{List, [], _∷_, _++_, map}
+use Prim.Native.Nat.{ℕ, _+_, _-_, _≤_, _<_}
+use native.Mathlib.Omega.{arith}
+use native.Mathlib.Numerals.{add-one}
+use borrow.Author.Tests.{leb-false, ltb-false}
+use lib.Dec.{leb, ltb}
+use lib.ListN.{length, getD, take, drop, set, length-set, length-replicate}
+use lib.Seq.{getD-take, length-take-le, take-suc-set}
+use Rattle.refusal.specs.Outcome.{Answer, outcome, after, orRefuse}
+use Rattle.refusal.specs.Outcome.Answer.{given, refused}
+use Rattle.bit.specs.declared.LogicBit.{LogicBit}
+use Rattle.words.specs.Planes.{wordCount, fromPlanes, valuePlane, unknownPlane, Plane, Planes, lent, planesOf}
+use Rattle.words.proofs.Planes.{length-tabulate, bits-again, value-plane, unknown-plane}
+use Rattle.planes.specs.Entries.{maxWidth}
+use Rattle.value.specs.declared.Header.{Header}
+use Rattle.value.specs.Checks.{Vector, vector, checkVector}
+use Rattle.value.proofs.Checks.{Sound, vector-accepted}
+use Rattle.store.specs.declared.Cell.{Cell}
+use Rattle.store.specs.Store.{State, state, noCell, emptyStore, filled, cellWords, cellPlanes, cellVector, wordsOf, nextWord, cellAgrees, cellsAgree, agrees, checkStore, putPlanes, putCell, appended, checkInput, addInput, Holds}
+use Rattle.store.proofs.Answers.{vector-accepts}
+use Rattle.store.proofs.Spans.{Fits, fits-cell, cells-snoc, cell-there, cells-same, Agreed, state-agrees, agrees-state, next-within}
+use Rattle.store.proofs.Tail.{put-take, put-span, put-length}
+
+-- ---- reading
+
+pub record Readable (a : Planes) (c : Cell) : Type 0 where
+  pub value-within : c .start + cellWords c ≤ length (a .value)
+  pub unknown-within : c .start + cellWords c ≤ length (a .unknown)
+  pub sound : Sound (c .header) (cellPlanes a c)
+
+pub cell-read : (s : State) (i : ℕ) (d : Cell) → length (s .store .cells) ≡ 320 → agrees s ≡ true → i < s .store .count
+    → Readable (s .arenas) (getD (s .store .cells) i d)
+cell-read s i d n h l = subst (Readable (s .arenas)) (getD-take (s .store .count) (s .store .cells) i d l) there
+  where
+    g : Agreed s
+    g = state-agrees s h
+
+    long : length (filled (s .store)) ≡ s .store .count
+    long = length-take-le (s .store .count) (s .store .cells) (omega (arith, n, g .few))
+
+    f : Fits (s .arenas) (getD (filled (s .store)) i d .start) (getD (filled (s .store)) i d)
+    f = cell-there (s .arenas) (filled (s .store)) 0 i d (g .cells) (omega (arith, long))
+
+    there : Readable (s .arenas) (getD (filled (s .store)) i d)
+    there = record {
+      value-within = f .within;
+      unknown-within = omega (arith, f .within, g .level);
+      sound = vector-accepted (getD (filled (s .store)) i d .header) (cellPlanes (s .arenas) (getD (filled (s .store)) i d)) (f .sound);
+    }
+
+-- ---- the empty store
+
+pub empty-holds : (a : Planes) → length (a .value) ≡ length (a .unknown) → Holds (state emptyStore a) []
+unfolding emptyStore cellsAgree
+empty-holds a e = record {
+  places = length-replicate 320 noCell;
+  agreed = agrees-state (state emptyStore a) (record { few = omega arith; level = e; cells = refl });
+  cells = refl;
+}
+
+-- ---- one vector more
+
+-- a vector that a cell can hold
+pub record Storable (r : Vector) : Type 0 where
+  pub width : length (r .bits) ≡ r .header .width
+  pub narrow : r .header .width ≤ maxWidth
+  pub fill : r .header .«is_fill» ≡ true → r .header .width ≡ 0 → ⊥
+
+storable-sound : (r : Vector) → Storable r → Sound (r .header) (planesOf (r .bits))
+storable-sound r t = record {
+  planes = record {
+    narrow = t .narrow;
+    value-plane = subst (λ (w : ℕ). Plane w (valuePlane (r .bits))) (t .width) (value-plane (r .bits));
+    unknown-plane = subst (λ (w : ℕ). Plane w (unknownPlane (r .bits))) (t .width) (unknown-plane (r .bits));
+  };
+  fill = t .fill;
+}
+
+map-snoc : {A B : Type 0} (f : A → B) (xs : List A) (x : A) → map f (xs ++ (x ∷ [])) ≡ map f xs ++ (f x ∷ [])
+map-snoc f [] x = refl
+map-snoc f (y ∷ xs) x = ap (λ (l : List _). f y ∷ l) (map-snoc f xs x)
+
+module _ (s : State) (cs : List Vector) (r : Vector) (holds : Holds s cs) (t : Storable r) (few : s .store .count < 320)
+    (room : nextWord (s .store) + wordCount (r .header .width) ≤ length (s .arenas .value)) where
+  abbrev at : ℕ
+  at = nextWord (s .store)
+
+  abbrev cell : Cell
+  cell = record { start = at; header = r .header }
+
+  abbrev old : Planes
+  old = s .arenas
+
+  abbrev new : Planes
+  new = putPlanes at (planesOf (r .bits)) (s .arenas)
+
+  g : Agreed s
+  g = state-agrees s (holds .agreed)
+
+  sound : Sound (r .header) (planesOf (r .bits))
+  sound = storable-sound r t
+
+  value-fits : at + length (valuePlane (r .bits)) ≤ length (old .value)
+  value-fits = omega (arith, room, sound .planes .value-plane .count)
+
+  unknown-fits : at + length (unknownPlane (r .bits)) ≤ length (old .unknown)
+  unknown-fits = omega (arith, room, sound .planes .unknown-plane .count, g .level)
+
+  value-length : length (new .value) ≡ length (old .value)
+  value-length = put-length at (valuePlane (r .bits)) (old .value) value-fits
+
+  unknown-length : length (new .unknown) ≡ length (old .unknown)
+  unknown-length = put-length at (unknownPlane (r .bits)) (old .unknown) unknown-fits
+
+  -- the new cell's words
+  words : cellPlanes new cell ≡ planesOf (r .bits)
+  words =
+      ap₂ lent
+      (ap (λ (n : ℕ). take n (drop at (new .value))) (sym (sound .planes .value-plane .count)) ∙ put-span at (valuePlane (r .bits)) (old .value) value-fits)
+      (ap (λ (n : ℕ). take n (drop at (new .unknown))) (sym (sound .planes .unknown-plane .count)) ∙ put-span at (unknownPlane (r .bits)) (old .unknown) unknown-fits)
+
+  -- and its vector
+  is-vector : cellVector new cell ≡ r
+  is-vector =
+      ap (vector (r .header)) words
+      ∙ ap (λ (n : ℕ). record { header = r .header; bits = fromPlanes n (valuePlane (r .bits)) (unknownPlane (r .bits)) }) (sym (t .width))
+      ∙ ap (λ (bs : List LogicBit). record { header = r .header; bits = bs }) (sym (bits-again (r .bits)))
+
+  filled-more : filled (putCell (r .header) (s .store)) ≡ filled (s .store) ++ (cell ∷ [])
+  filled-more =
+      ap (λ (k : ℕ). take k (set (s .store .cells) (s .store .count) cell)) (add-one (s .store .count))
+      ∙ take-suc-set (s .store .cells) (s .store .count) cell (omega (arith, holds .places, few))
+
+  others : (cellsAgree new 0 (filled (s .store)) ≡ true) × (map (cellVector new) (filled (s .store)) ≡ map (cellVector old) (filled (s .store)))
+  others =
+      cells-same old new at (omega (arith, room)) value-length (omega (arith, room, g .level)) (omega (arith, room, g .level, unknown-length))
+      (sym (put-take at (valuePlane (r .bits)) (old .value) value-fits))
+      (sym (put-take at (unknownPlane (r .bits)) (old .unknown) unknown-fits))
+      (filled (s .store)) 0 (omega arith) (g .cells)
+
+  fits : cellAgrees new (0 + wordsOf (filled (s .store))) cell ≡ true
+  fits =
+      fits-cell new (0 + wordsOf (filled (s .store))) cell
+      (record { begins = omega arith; within = omega (arith, room, value-length); sound = ap (checkVector (r .header)) words ∙ vector-accepts (r .header) (planesOf (r .bits)) sound })
+
+  pub append-holds : Holds (appended r s) (cs ++ (r ∷ []))
+  append-holds = record {
+    places = length-set (s .store .cells) (s .store .count) cell ∙ holds .places;
+    agreed = agrees-state (appended r s) (record {
+      few = omega (arith, few);
+      level = value-length ∙ g .level ∙ sym unknown-length;
+      cells = ap (cellsAgree new 0) filled-more ∙ cells-snoc new (filled (s .store)) cell 0 (others .0) fits;
+    });
+    cells =
+        ap (map (cellVector new)) filled-more
+        ∙ map-snoc (cellVector new) (filled (s .store)) cell
+        ∙ ap₂ (λ (vs : List Vector) (v : Vector). vs ++ (v ∷ [])) (others .1 ∙ holds .cells) is-vector;
+  }
+
+-- ---- an accepted input
+
+-- what a vector in order holds can be held by a cell
+sound-storable : (h : Header) (p : Planes) → Sound h p → Storable (vector h p)
+sound-storable h p s = record { width = length-tabulate (h .width) _; narrow = s .planes .narrow; fill = s .fill }
+
+pub record Accepted (s : State) (h : Header) (p : Planes) : Type 0 where
+  pub agreed : agrees s ≡ true
+  pub few : s .store .count < 320
+  pub sound : Sound h p
+  pub room : nextWord (s .store) + wordCount (h .width) ≤ length (s .arenas .value)
+
+pub input-accepted : (s : State) (h : Header) (p : Planes) → checkInput s h p ≡ given tt → Accepted s h p
+unfolding checkStore
+input-accepted s h p e =
+    go (agrees s) refl (leb 320 (s .store .count)) refl (checkVector h p) refl (ltb (length (s .arenas .value) - nextWord (s .store)) (wordCount (h .width))) refl e
+  where
+    go : (a : Bool) → agrees s ≡ a → (b : Bool) → leb 320 (s .store .count) ≡ b → (c : Answer Unit) → checkVector h p ≡ c
+        → (d : Bool) → ltb (length (s .arenas .value) - nextWord (s .store)) (wordCount (h .width)) ≡ d
+        → _≡_ {A = Answer Unit} (after (cond a (given tt) (refused 14)) (after (cond b (refused 12) (given tt)) (after c (cond d (refused 13) (given tt))))) (given tt)
+        → Accepted s h p
+    go false _ b _ c _ d _ e = let z : _≡_ {A = ℕ} 0 1 = cc in absurd (omega arith)
+    go true _ true _ c _ d _ e = let z : _≡_ {A = ℕ} 0 1 = cc in absurd (omega arith)
+    go true _ false _ (refused n) _ d _ e = let z : _≡_ {A = ℕ} 0 1 = cc in absurd (omega arith)
+    go true _ false _ (given t) _ true _ e = let z : _≡_ {A = ℕ} 0 1 = cc in absurd (omega arith)
+    go true ea false eb (given t) ec false ed e =
+        record {
+          agreed = ea;
+          few = leb-false _ _ eb;
+          sound = vector-accepted h p ec;
+          room = omega (arith, next-within s ea, ltb-false (length (s .arenas .value) - nextWord (s .store)) (wordCount (h .width)) ed);
+        }
+
+pub input-holds : (s : State) (cs : List Vector) (h : Header) (p : Planes) → Holds s cs → checkInput s h p ≡ given tt
+    → Holds (addInput s h p .left) (cs ++ (vector h p ∷ []))
+input-holds s cs h p holds e =
+    let a = input-accepted s h p e in
+    subst (λ (x : Answer Unit). Holds (orRefuse x s (outcome (given (s .store .count)) (appended (vector h p) s)) .left) (cs ++ (vector h p ∷ []))) (sym e)
+    (append-holds s cs (vector h p) holds (sound-storable h p (a .sound)) (a .few) (a .room))

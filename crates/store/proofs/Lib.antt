@@ -1,0 +1,5 @@
+pub mod Answers
+pub mod Spans
+pub mod Walk
+pub mod Tail
+pub mod Held

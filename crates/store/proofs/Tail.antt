@@ -1,0 +1,44 @@
+-- Words put into an arena.
+--     tail-back       what an arena holds after its end part was lent to a copying function
+--     put-take, put-span, put-length     the words before those put in, those themselves, and how many there are
+use mathlib.Core.Path.{_≡_, refl, ap, _∙_}
+use mathlib.Core.List.{List, _++_, append-nil}
+use Prim.Native.Nat.{ℕ, _≤_, _+_, _-_}
+use native.Mathlib.Omega.{arith}
+use lib.ListN.{length, take, drop, length-append, length-drop, drop-of-length-le}
+use lib.Seq.{take-all, take-at, drop-at, drop-drop, length-take-le}
+use borrow.Rule.Slice.PartMut.{putMid}
+use Rattle.store.specs.Store.{put}
+
+module _ (k : ℕ) (arena : List ℕ) where
+  rest : length (drop k arena) ≤ length arena - k
+  rest = simp length-drop (omega arith)
+
+  pub tail-back : (left p : List ℕ) → left ≡ p ++ drop (length p) (take (length arena - k) (drop k arena))
+      → putMid k (length arena - k) arena left ≡ put k p arena
+  tail-back left p e =
+      let n = length arena - k in
+      ap (λ (y : List ℕ). take k arena ++ (y ++ drop n (drop k arena))) e
+      ∙ ap (λ (x : List ℕ). take k arena ++ ((p ++ drop (length p) (take n (drop k arena))) ++ x)) (drop-of-length-le (drop k arena) rest)
+      ∙ ap (λ (x : List ℕ). take k arena ++ x) (append-nil (p ++ drop (length p) (take n (drop k arena))))
+      ∙ ap (λ (x : List ℕ). take k arena ++ (p ++ drop (length p) x)) (take-all n (drop k arena) rest)
+      ∙ ap (λ (x : List ℕ). take k arena ++ (p ++ x)) (drop-drop (length p) k arena)
+
+module _ (k : ℕ) (p arena : List ℕ) (h : k + length p ≤ length arena) where
+  before : length (take k arena) ≡ k
+  before = length-take-le k arena (omega arith)
+
+  pub put-take : take k (put k p arena) ≡ take k arena
+  put-take = take-at (take k arena) (p ++ drop (k + length p) arena) k before
+
+  pub put-span : take (length p) (drop k (put k p arena)) ≡ p
+  put-span =
+      ap (λ (x : List ℕ). take (length p) x) (drop-at (take k arena) (p ++ drop (k + length p) arena) k before)
+      ∙ take-at p (drop (k + length p) arena) (length p) refl
+
+  pub put-length : length (put k p arena) ≡ length arena
+  put-length =
+      let b = length-drop (k + length p) arena in
+      let c = length-append (take k arena) (p ++ drop (k + length p) arena) in
+      let d = length-append p (drop (k + length p) arena) in
+      omega (arith, before)

@@ -1,0 +1,108 @@
+-- `store::inner::append`: each arena's end part is written, and the planes are those of the vector that they hold.
+use mathlib.Core.Path.{_≡_, ap, ap₂, _∙_}
+use mathlib.Core.List.{List}
+use Prim.Native.Nat.{ℕ, _+_, _-_, _^_, _<_}
+use lib.ListN.{getD, set}
+use Rattle.words.specs.Planes.{Planes, lent, planesOf, fromPlanes, Plane}
+use Rattle.planes.proofs.Splice.{planes-again}
+use Rattle.value.specs.declared.Header.{Header}
+use Rattle.value.specs.Checks.{vector}
+use Rattle.store.specs.declared.Store.{Store}
+use Rattle.store.specs.Store.{state, nextWord, putPlanes, appended}
+use Rattle.store.proofs.Tail.{tail-back}
+use borrow.Author.Needs.{needs}
+use Rattle.store.proofs.inner.append.Statement.{statement}
+use Rattle.store.proofs.inner.append.Tie as tie
+
+mul-copy-front : tie.Need-mul-copy-front
+mul-copy-front c = search needs
+
+sub-copy-front : tie.Need-sub-copy-front
+sub-copy-front c = search needs
+
+part-copy-front-start : tie.Need-part-copy-front-start
+part-copy-front-start c = search needs
+
+part-copy-front-end : tie.Need-part-copy-front-end
+part-copy-front-end c = search needs
+
+copy-front-requires : tie.Need-copy-front-requires
+copy-front-requires c κs = search needs
+
+mul-copy-front-2 : tie.Need-mul-copy-front-2
+mul-copy-front-2 c = search needs
+
+sub-copy-front-2 : tie.Need-sub-copy-front-2
+sub-copy-front-2 c = search needs
+
+part-copy-front-start-2 : tie.Need-part-copy-front-start-2
+part-copy-front-start-2 c = search needs
+
+part-copy-front-end-2 : tie.Need-part-copy-front-end-2
+part-copy-front-end-2 c = search needs
+
+copy-front-requires-2 : tie.Need-copy-front-requires-2
+copy-front-requires-2 c κs = search needs
+
+mul-t13 : tie.Need-mul-t13
+mul-t13 c = search needs
+
+element-set-from-t : tie.Need-element-set-from-t
+element-set-from-t c = search needs
+
+add-t : tie.Need-add-t
+add-t c = search needs
+
+same-length : tie.Need-same-length
+same-length c = search needs
+
+same-length-2 : tie.Need-same-length-2
+same-length-2 c = search needs
+
+-- a store with one cell more, that begins at word k
+abbrev more : Store → Header → ℕ → Store
+more s h k = record { cells = set (s .cells) (s .count) (record { start = k; header = h }); count = s .count + 1 }
+
+module _ (s : Store) (k : ℕ) (h : Header) (v u : List ℕ) (a : Planes) (e : k ≡ nextWord s) (hv : Plane (h .width) v) (hu : Plane (h .width) u)
+    (fv : (i : ℕ) → getD v i 0 < 2 ^ 64) (fu : (i : ℕ) → getD u i 0 < 2 ^ 64) where
+  is-appended : state (more s h k) (putPlanes k (lent v u) a) ≡ appended (vector h (lent v u)) (state s a)
+  is-appended =
+      ap (λ (p : Planes). state (more s h k) (putPlanes k p a)) (planes-again (h .width) v u hv hu fv fu)
+      ∙ ap (λ (n : ℕ). state (more s h n) (putPlanes n (planesOf (fromPlanes (h .width) v u)) a)) e
+
+returns : tie.Need-returns
+returns c =
+    let second = c .before .before in
+    let first = second .before .before .before .before in
+    let known = first .before .before .before .before in
+    let st = known .before .before in
+    let g = st .args in
+    let av = g .arena-value .now in
+    let au = g .arena-unknown .now in
+    ap (λ (p : Planes). state (more (g .s) (g .h) (g .at)) p)
+    (ap₂ lent
+    (tail-back (g .at) av (first .copy-front .last .0) (g .value .now) (first .copy-front .ensures))
+    (tail-back (g .at) au (second .copy-front2 .last .0) (g .unknown .now) (second .copy-front2 .ensures)))
+    ∙ is-appended (g .s) (g .at) (g .h) (g .value .now) (g .unknown .now) (lent av au) (st .pre .0 .1) (st .pre .1 .0) (st .pre .1 .1 .0)
+    (λ k. known .before .shared-slice-known .given k .fits) (λ k. known .shared-slice-known2 .given k .fits)
+
+pub append-spec : {M : Type 1} → statement M
+append-spec =
+    tie.close
+    (tie.spec
+    mul-copy-front
+    sub-copy-front
+    part-copy-front-start
+    part-copy-front-end
+    copy-front-requires
+    mul-copy-front-2
+    sub-copy-front-2
+    part-copy-front-start-2
+    part-copy-front-end-2
+    copy-front-requires-2
+    mul-t13
+    element-set-from-t
+    add-t
+    same-length
+    same-length-2
+    returns)

@@ -1,0 +1,147 @@
+// The check of a store, a cell's words, and a cell put behind the last. Most of these ask their caller for what the check has found.
+use crate::Cell;
+use crate::PlaceAnswer;
+use crate::Store;
+use refusal::Refusal;
+use refusal::Verdict;
+use value::Header;
+use value::check_vector;
+use words::word_count;
+ghost use mathlib.Core.Path.{_≡_};
+ghost use mathlib.Core.List.{_++_};
+ghost use Prim.Native.Nat.{_≤_, _<_, _+_};
+ghost use lib.ListN.{length, drop};
+ghost use Rattle.refusal.specs.Outcome.{after};
+ghost use Rattle.refusal.specs.Outcome.Answer.{given};
+ghost use Rattle.words.specs.Planes.{wordCount, lent, Plane};
+ghost use Rattle.value.specs.Checks.{vector};
+ghost use Rattle.store.specs.Store.{state, cellWords, span, nextWord, cellAgrees, checkStore, checkInput, placeAnswer, appended};
+
+// A cell's words in an arena.
+pub fn cell_words(c: Cell, arena: &[u64]) -> &[u64]
+    requires { ⌜ c .start + cellWords c ≤ length (now arena) ⌝ }
+    ensures { λ r. ⌜ now r ≡ span c (now (arena .entry)) ⌝ }
+{
+    let start = c.start;
+    let h = c.header;
+    let end = start + word_count(h.width);
+    &arena[start..end]
+}
+
+// Whether a cell's span begins at word `at` and lies within the arenas, and the cell breaks none of 1, 3 and 4.
+fn cell_agrees(c: Cell, at: usize, value: &[u64], unknown: &[u64]) -> bool
+    requires { ⌜ (at ≤ length (now value)) × (length (now value) ≡ length (now unknown)) ⌝ }
+    ensures { λ r. ⌜ r ≡ cellAgrees (lent (now (value .entry)) (now (unknown .entry))) at c ⌝ }
+{
+    let start = c.start;
+    let h = c.header;
+    if start != at {
+        return false;
+    }
+    let n = word_count(h.width);
+    if value.len() - at < n {
+        return false;
+    }
+    let v = cell_words(c, value);
+    let u = cell_words(c, unknown);
+    match check_vector(h, v, u) {
+        Verdict::Refused(_) => false,
+        Verdict::Accepted => true,
+    }
+}
+
+// Whether store and arenas agree: the word at which the next cell begins, or 14.
+pub fn check_store(s: Store, value: &[u64], unknown: &[u64]) -> PlaceAnswer
+    ensures { λ r. ⌜ placeAnswer r ≡ after (checkStore (state s (lent (now (value .entry)) (now (unknown .entry))))) (given (nextWord s)) ⌝ }
+{
+    let n = s.count;
+    if 320 < n {
+        return PlaceAnswer::Refused(Refusal::BadStore);
+    }
+    if value.len() != unknown.len() {
+        return PlaceAnswer::Refused(Refusal::BadStore);
+    }
+    let mut at = 0;
+    let mut i = 0;
+    while i < n {
+        let c = s.cells[i];
+        if !cell_agrees(c, at, value, unknown) {
+            return PlaceAnswer::Refused(Refusal::BadStore);
+        }
+        let h = c.header;
+        at += word_count(h.width);
+        i += 1;
+    }
+    PlaceAnswer::At(at)
+}
+
+// The word at which the cell of an input begins, or its refusal: 14, 12, then 1 to 4, then 13.
+pub fn place_input(
+    s: Store,
+    h: Header,
+    value: &[u64],
+    unknown: &[u64],
+    arena_value: &[u64],
+    arena_unknown: &[u64],
+) -> PlaceAnswer
+    ensures { λ r. ⌜ placeAnswer r ≡ after (checkInput (state s (lent (now («arena_value» .entry)) (now («arena_unknown» .entry)))) h (lent (now (value .entry)) (now (unknown .entry)))) (given (nextWord s)) ⌝ }
+{
+    match check_store(s, arena_value, arena_unknown) {
+        PlaceAnswer::Refused(r) => PlaceAnswer::Refused(r),
+        PlaceAnswer::At(at) => {
+            if 320 <= s.count {
+                return PlaceAnswer::Refused(Refusal::StoreFull);
+            }
+            match check_vector(h, value, unknown) {
+                Verdict::Refused(r) => PlaceAnswer::Refused(r),
+                Verdict::Accepted => {
+                    let n = word_count(h.width);
+                    if arena_value.len() - at < n {
+                        return PlaceAnswer::Refused(Refusal::NoRoom);
+                    }
+                    PlaceAnswer::At(at)
+                }
+            }
+        }
+    }
+}
+
+// Copies words to the front of a plane; its further words stay.
+fn copy_front(plane: &mut [u64], from: &[u64])
+    requires { ⌜ length (now from) ≤ length (now plane) ⌝ }
+    ensures { λ _. ⌜ now (plane .exit) ≡ now (from .entry) ++ drop (length (now (from .entry))) (now (plane .entry)) ⌝ }
+{
+    let mut k = 0;
+    while k < from.len() {
+        plane[k] = from[k];
+        k += 1;
+    }
+}
+
+// Puts a vector behind the last cell, where the next one begins.
+pub fn append(
+    s: Store,
+    at: usize,
+    h: Header,
+    value: &[u64],
+    unknown: &[u64],
+    arena_value: &mut [u64],
+    arena_unknown: &mut [u64],
+) -> Store
+    requires { ⌜ (s .count < 320) × (at ≡ nextWord s) ⌝ }
+    requires { ⌜ Plane (h .width) (now value) ⌝ }
+    requires { ⌜ Plane (h .width) (now unknown) ⌝ }
+    requires { ⌜ (at + wordCount (h .width) ≤ length (now «arena_value»)) × (at + wordCount (h .width) ≤ length (now «arena_unknown»)) ⌝ }
+    ensures { λ r. ⌜ state r (lent (now («arena_value» .exit)) (now («arena_unknown» .exit))) ≡ appended (vector h (lent (now (value .entry)) (now (unknown .entry)))) (state s (lent (now («arena_value» .entry)) (now («arena_unknown» .entry)))) ⌝ }
+{
+    copy_front(&mut arena_value[at..], value);
+    copy_front(&mut arena_unknown[at..], unknown);
+    let n = s.count;
+    let mut t = s;
+    t.cells[n] = Cell {
+        start: at,
+        header: h,
+    };
+    t.count = n + 1;
+    t
+}

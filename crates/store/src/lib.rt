@@ -1,0 +1,84 @@
+// The cell store: at most 320 vectors, numbered from 0, whose words lie one behind the other in two lent arenas. The store goes in by value and
+// comes back by value, inside the answer.
+use refusal::Refusal;
+use value::Header;
+use value::plain_header;
+ghost use mathlib.Core.Path.{_≡_};
+ghost use Rattle.refusal.specs.Outcome.{outcome};
+ghost use Rattle.words.specs.Planes.{lent};
+ghost use Rattle.store.specs.Store.{state, emptyStore, cellAnswer, addInput};
+
+pub mod inner;
+
+// Where a vector's words begin in both arenas, and its header.
+pub struct Cell {
+    pub start: usize,
+    pub header: Header,
+}
+
+// The first `count` cells are filled.
+pub struct Store {
+    pub cells: [Cell; 320],
+    pub count: usize,
+}
+
+// The number of the cell that was added.
+pub enum CellAnswer {
+    Added(usize),
+    Refused(Refusal),
+}
+
+// An answer, and the store as the call leaves it.
+pub struct Stored {
+    pub answer: CellAnswer,
+    pub store: Store,
+}
+
+// The word at which the next cell begins.
+pub enum PlaceAnswer {
+    At(usize),
+    Refused(Refusal),
+}
+
+impl Store {
+    // No cell is filled.
+    pub fn new() -> Store
+        ensures { λ r. ⌜ r ≡ emptyStore ⌝ }
+    {
+        let c = Cell {
+            start: 0,
+            header: plain_header(0),
+        };
+        Store {
+            cells: [c; 320],
+            count: 0,
+        }
+    }
+
+    // Adds a vector behind the last cell, its words copied into the arenas. Refused by 14, 12, then 1 to 4 for the vector, then 13.
+    pub fn add_input(
+        self,
+        h: Header,
+        value: &[u64],
+        unknown: &[u64],
+        arena_value: &mut [u64],
+        arena_unknown: &mut [u64],
+    ) -> Stored
+        ensures { λ r. ⌜ outcome (cellAnswer (r .answer)) (state (r .store) (lent (now («arena_value» .exit)) (now («arena_unknown» .exit)))) ≡ addInput (state self (lent (now («arena_value» .entry)) (now («arena_unknown» .entry)))) h (lent (now (value .entry)) (now (unknown .entry))) ⌝ }
+    {
+        match inner::place_input(self, h, value, unknown, arena_value, arena_unknown) {
+            PlaceAnswer::Refused(r) => Stored {
+                answer: CellAnswer::Refused(r),
+                store: self,
+            },
+            PlaceAnswer::At(at) => {
+                let n = self.count;
+                let s = inner::append(self, at, h, value, unknown, arena_value, arena_unknown);
+                Stored {
+                    answer: CellAnswer::Added(n),
+                    store: s,
+                }
+            }
+        }
+    }
+}
