@@ -1,5 +1,6 @@
--- What an answer behind a check tells of the check.
+-- What an answer behind a check tells of the check, and when a check accepts.
 --     answer-given, answer-refused     a result: the check accepted; a refusal: the check's own
+--     both                             two tests that hold together
 --     vector-accepts                   a vector in order is accepted
 use mathlib.Core.Path.{_≡_, refl, ap}
 use mathlib.Core.Bool.{Bool, true, false, _&&_}

@@ -1,5 +1,6 @@
 -- What a state holds, and how it lasts.
 --     cell-read       a filled cell lies within the arenas, and its planes are those of a vector
+--     held-count, cell-held     there are as many cells as vectors held, and cell i has vector i
 --     empty-holds     an empty store holds no cells
 --     append-holds    a vector put behind the last cell is held behind the others
 --     input-holds     an accepted input is held behind the others
@@ -11,7 +12,7 @@ use native.Mathlib.Omega.{arith}
 use native.Mathlib.Numerals.{add-one}
 use borrow.Author.Tests.{leb-false, ltb-false}
 use lib.Dec.{leb, ltb}
-use lib.ListN.{length, getD, take, drop, set, length-set, length-replicate}
+use lib.ListN.{length, getD, take, drop, set, length-map, length-set, length-replicate, List·getD-map}
 use lib.Seq.{getD-take, length-take-le, take-suc-set}
 use Rattle.refusal.specs.Outcome.{Answer, outcome, after, orRefuse}
 use Rattle.refusal.specs.Outcome.Answer.{given, refused}
@@ -54,6 +55,20 @@ cell-read s i d n h l = subst (Readable (s .arenas)) (getD-take (s .store .count
       unknown-within = omega (arith, f .within, g .level);
       sound = vector-accepted (getD (filled (s .store)) i d .header) (cellPlanes (s .arenas) (getD (filled (s .store)) i d)) (f .sound);
     }
+
+pub held-count : (s : State) (cs : List Vector) → Holds s cs → length cs ≡ s .store .count
+held-count s cs h =
+    ap (λ (l : List Vector). length l) (sym (h .cells))
+    ∙ length-map (filled (s .store)) (cellVector (s .arenas))
+    ∙ length-take-le (s .store .count) (s .store .cells) (omega (arith, h .places, state-agrees s (h .agreed) .few))
+
+pub cell-held : (s : State) (cs : List Vector) (i : ℕ) (d : Cell) → Holds s cs → i < length cs
+    → cellVector (s .arenas) (getD (s .store .cells) i d) ≡ getD cs i (cellVector (s .arenas) d)
+cell-held s cs i d h l =
+    let n = held-count s cs h in
+    ap (cellVector (s .arenas)) (sym (getD-take (s .store .count) (s .store .cells) i d (omega arith)))
+    ∙ sym (List·getD-map (cellVector (s .arenas)) (filled (s .store)) i d)
+    ∙ ap (λ (l : List Vector). getD l i (cellVector (s .arenas) d)) (h .cells)
 
 -- ---- the empty store
 
@@ -113,10 +128,11 @@ module _ (s : State) (cs : List Vector) (r : Vector) (holds : Holds s cs) (t : S
   unknown-fits : at + length (unknownPlane (r .bits)) ≤ length (old .unknown)
   unknown-fits = omega (arith, room, sound .planes .unknown-plane .count, g .level)
 
-  value-length : length (new .value) ≡ length (old .value)
+  -- the arenas stay as long as they were
+  pub value-length : length (new .value) ≡ length (old .value)
   value-length = put-length at (valuePlane (r .bits)) (old .value) value-fits
 
-  unknown-length : length (new .unknown) ≡ length (old .unknown)
+  pub unknown-length : length (new .unknown) ≡ length (old .unknown)
   unknown-length = put-length at (unknownPlane (r .bits)) (old .unknown) unknown-fits
 
   -- the new cell's words

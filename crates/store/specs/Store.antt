@@ -39,7 +39,7 @@ pub record State : Type 0 where
 abbrev pub state : Store → Planes → State
 state s a = record { store = s; arenas = a }
 
--- no cell is filled
+-- what stands in a place that is not filled, in an empty store
 abbrev pub noCell : Cell
 noCell = record { start = 0; header = plain 0 }
 

@@ -50,7 +50,7 @@ fn cell_agrees(c: Cell, at: usize, value: &[u64], unknown: &[u64]) -> bool
     }
 }
 
-// Whether store and arenas agree: the word at which the next cell begins, or 14.
+// The word at which the next cell begins, if the store agrees with its arenas; else 14.
 pub fn check_store(s: Store, value: &[u64], unknown: &[u64]) -> PlaceAnswer
     ensures { λ r. ⌜ placeAnswer r ≡ after (checkStore (state s (lent (now (value .entry)) (now (unknown .entry))))) (given (nextWord s)) ⌝ }
 {

@@ -41,7 +41,7 @@ pub enum PlaceAnswer {
 }
 
 impl Store {
-    // No cell is filled.
+    // An empty store.
     pub fn new() -> Store
         ensures { λ r. ⌜ r ≡ emptyStore ⌝ }
     {
