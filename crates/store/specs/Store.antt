@@ -39,7 +39,7 @@ pub record State : Type 0 where
 abbrev pub state : Store → Planes → State
 state s a = record { store = s; arenas = a }
 
--- what stands in a place that is not filled, in an empty store
+-- what stands in each place of an empty store
 abbrev pub noCell : Cell
 noCell = record { start = 0; header = plain 0 }
 
@@ -99,11 +99,13 @@ agrees s =
 unfoldable pub checkStore : State → Answer Unit
 checkStore s = cond (agrees s) (given tt) (refused 14)
 
--- ---- 12, 320 cells already; 13, behind the last cell an arena (by 14 both are of one length) has fewer words than a cell of width w
+-- ---- 12 and 13
 
+-- 320 cells already
 abbrev pub checkCount : State → Answer Unit
 checkCount s = cond (leb 320 (s .store .count)) (refused 12) (given tt)
 
+-- an arena (14 asks that both are of one length) has fewer words behind the last cell than a cell of width w takes
 abbrev pub checkRoom : ℕ → State → Answer Unit
 checkRoom w s = cond (ltb (length (s .arenas .value) - nextWord (s .store)) (wordCount w)) (refused 13) (given tt)
 
