@@ -1,0 +1,6 @@
+pub mod Exact
+pub mod Decimal
+pub mod Names
+pub mod Vectors
+pub mod Places
+pub mod Turns

@@ -1,0 +1,119 @@
+-- The bits of a vector: what is read is what is written, and where each bit stands in the text.
+--     bits-exact, bitsLine-exact     the readers of exactly n bits, and of a line of them
+--     bits-at       bit j of a vector of width n is that of the character at n - 1 - j
+use mathlib.Core.Path.{_≡_, refl, sym, ap, _∙_}
+use mathlib.Core.Bool.{Bool, true, false, _||_, cond}
+use mathlib.Core.List.{List, [], _∷_, _++_, append-assoc, reverse, reverse-cons, reverse-reverse}
+use Prim.Native.Nat.{ℕ, zero, suc, _+_, _-_, _<_}
+use native.Mathlib.Omega.{arith}
+use lib.Dec.{eqb}
+use lib.ListN.{length, getD, drop, length-reverse, List·getD-append}
+use lib.Seq.{getD-at, getD-drop}
+use borrow.Author.Tests.{eqb-true}
+use Rattle.bit.specs.declared.LogicBit.{LogicBit}
+use Rattle.bit.specs.declared.LogicBit.the-variants.{Zero, One, X, Z}
+use Rattle.words.specs.Vector.{tabulate}
+use Rattle.words.proofs.Planes.{eq-tabulate}
+use Rattle.text.specs.Read.{found, lineEnd, isBit, ofByte, bit, bits, bitsLine}
+use Rattle.text.specs.Write.{texts, bitByte, bitText, bitsText}
+use Rattle.text.specs.Exact.{Exact, All}
+use Rattle.text.proofs.Exact.{when-found, next-exact, made-exact, limit-exact, after-key, many-exact}
+
+-- ---- a bit
+
+of-byte : (b : LogicBit) → ofByte (bitByte b) ≡ b
+unfolding ofByte
+of-byte Zero = refl
+of-byte One = refl
+of-byte X = refl
+of-byte Z = refl
+
+bit-accepts : (b : LogicBit) (t : List ℕ) → bit (bitText b ++ t) ≡ found b t
+unfolding bit isBit ofByte
+bit-accepts Zero t = refl
+bit-accepts One t = refl
+bit-accepts X t = refl
+bit-accepts Z t = refl
+
+byte-of : (c : ℕ) → isBit c ≡ true → bitByte (ofByte c) ≡ c
+unfolding isBit ofByte
+byte-of c h = go (eqb c 48) (eqb c 49) (eqb c 120) (eqb c 122) refl refl refl refl h
+  where
+    go : (p q r s : Bool) → eqb c 48 ≡ p → eqb c 49 ≡ q → eqb c 120 ≡ r → eqb c 122 ≡ s
+        → (p || (q || (r || s))) ≡ true → bitByte (cond q One (cond r X (cond s Z Zero))) ≡ c
+    go p true r s e f g k h = sym (eqb-true c 49 f)
+    go p false true s e f g k h = sym (eqb-true c 120 g)
+    go p false false true e f g k h = sym (eqb-true c 122 k)
+    go true false false false e f g k h = sym (eqb-true c 48 e)
+    go false false false false e f g k h = let z : _≡_ {A = ℕ} 0 1 = cc in absurd (omega arith)
+
+bit-only : (t u : List ℕ) (b : LogicBit) → bit t ≡ found b u → t ≡ bitText b ++ u
+unfolding bit
+bit-only [] u b h = let z : _≡_ {A = ℕ} 0 1 = cc in absurd (omega arith)
+bit-only (c ∷ t) u b h =
+    let w = when-found (isBit c) (found (ofByte c) t) b u h in
+    let e = byte-of c (w .0) in
+    let o : ofByte c ≡ b = cc (w .1) in
+    let q : t ≡ u = cc (w .1) in
+    rw (← o, q, e)
+
+bit-exact : Exact bit bitText (λ b. Unit {0})
+bit-exact = record { accepts = λ b t p. bit-accepts b t; only = λ b t u h. (tt, bit-only t u b h) }
+
+-- ---- a vector
+
+any : (bs : List LogicBit) → All (λ b. Unit {0}) bs
+any [] = tt
+any (b ∷ bs) = (tt, any bs)
+
+pub bits-exact : (n : ℕ) → Exact (bits n) bitsText (λ bs. length bs ≡ n)
+unfolding bits bitsText
+bits-exact n =
+    limit-exact (λ bs p. sym (length-reverse bs) ∙ p .0 .0) (λ bs p. ((length-reverse bs ∙ p, any (reverse bs)), tt {0}))
+    (next-exact {Q = λ bs. Unit {0}} (λ bs. reverse bs) (many-exact n bit-exact) (λ l.
+    limit-exact (λ bs p. (ap reverse p ∙ reverse-reverse l, tt {0})) (λ bs p. sym (reverse-reverse bs) ∙ ap reverse (p .0))
+    (after-key lineEnd (made-exact (reverse l)))))
+
+pub bitsLine-exact : (k : List ℕ) (n : ℕ) → Exact (bitsLine k n) (λ bs. k ++ bitsText bs) (λ bs. length bs ≡ n)
+unfolding bitsLine
+bitsLine-exact k n = after-key k (bits-exact n)
+
+-- ---- where a bit stands
+
+getD-reverse : (bs : List LogicBit) (j : ℕ) → j < length bs → getD (reverse bs) (length bs - 1 - j) Zero ≡ getD bs j Zero
+getD-reverse [] j l = absurd (omega arith)
+getD-reverse (b ∷ bs) zero l =
+    let k : ℕ = suc (length bs) - 1 - 0 in
+    ap (λ (z : List LogicBit). getD z k Zero) (reverse-cons b bs) ∙ getD-at (reverse bs) b [] Zero k (omega (arith, length-reverse bs))
+getD-reverse (b ∷ bs) (suc j) l =
+    let k : ℕ = suc (length bs) - 1 - suc j in
+    let e : k ≡ length bs - 1 - j = omega arith in
+    ap (λ (z : List LogicBit). getD z k Zero) (reverse-cons b bs)
+    ∙ List·getD-append (reverse bs) (b ∷ []) Zero k (omega (arith, length-reverse bs))
+    ∙ ap (λ (i : ℕ). getD (reverse bs) i Zero) e
+    ∙ getD-reverse bs j (omega arith)
+
+byte-at : (bs : List LogicBit) (u : List ℕ) (i : ℕ) → i < length bs → getD (texts bitText bs ++ u) i 0 ≡ bitByte (getD bs i Zero)
+unfolding texts
+byte-at [] u i l = absurd (omega arith)
+byte-at (b ∷ bs) u zero l = refl
+byte-at (b ∷ bs) u (suc i) l = byte-at bs u i (omega arith)
+
+pub bits-at : (n : ℕ) (s : List ℕ) (from : ℕ) (bs : List LogicBit) (u : List ℕ) → bits n (drop from s) ≡ found bs u
+    → bs ≡ tabulate n (λ j. ofByte (getD s (from + (n - 1 - j)) 0))
+unfolding bitsText
+bits-at n s from bs u h =
+    let o = bits-exact n .only bs (drop from s) u h in
+    let len : length bs ≡ n = o .0 in
+    eq-tabulate n (λ j. ofByte (getD s (from + (n - 1 - j)) 0)) bs Zero len (λ j l.
+    let i : ℕ = n - 1 - j in
+    let m : length bs - 1 - j ≡ i = omega arith in
+    let e : getD s (from + i) 0 ≡ bitByte (getD (reverse bs) i Zero) =
+    sym (getD-drop from s i 0)
+    ∙ ap (λ (z : List ℕ). getD z i 0) (o .1 ∙ append-assoc (texts bitText (reverse bs)) lineEnd u)
+    ∙ byte-at (reverse bs) (lineEnd ++ u) i (omega (arith, length-reverse bs))
+    in
+    sym (getD-reverse bs j (omega arith))
+    ∙ ap (λ (k : ℕ). getD (reverse bs) k Zero) m
+    ∙ sym (of-byte (getD (reverse bs) i Zero))
+    ∙ ap ofByte (sym e))

@@ -1,0 +1,24 @@
+-- What the code answers for a reader's answer in the text s: a place of s instead of the text from there on.
+use Prim.Native.Nat.{ℕ, _-_}
+use mathlib.Core.List.{List}
+use lib.ListN.{length}
+use Rattle.text.specs.Read.{Got, found, broken}
+use Rattle.text.specs.declared.Place.{Place}
+use Rattle.text.specs.declared.Place.the-variants.{At, Absent}
+use Rattle.text.specs.declared.Line.{Line}
+use Rattle.text.specs.declared.Line.the-variants.{Number, Broken}
+
+-- where the text behind what was read begins
+abbrev pub placeIn : {A : Type 0} → List ℕ → Got A → Place
+placeIn s (found a u) = At (length s - length u)
+placeIn s broken = Absent
+
+-- the number that was read, and where the text behind it begins
+abbrev pub lineIn : List ℕ → Got ℕ → Line
+lineIn s (found v u) = Number v (length s - length u)
+lineIn s broken = Broken
+
+-- the first answer; where it is broken, the other
+abbrev pub firstLine : Line → Line → Line
+firstLine (Number v i) other = Number v i
+firstLine Broken other = other
