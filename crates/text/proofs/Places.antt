@@ -2,7 +2,7 @@
 --     begins, begins-end     where the rest of the text from i on begins
 --     place-found, place-absent, place-made     what an answer that is a place says
 --     line-found, line-broken, line-within      what an answer with a number says
---     key-found     the text behind a key
+--     key-found, keyed, unkeyed      the text behind a key, and a reader that goes on there
 --     name-found, name-absent, name-goes-on     the answer for a name, from those for its bytes and for LF
 use mathlib.Core.Path.{_≡_, refl, sym, ap}
 use mathlib.Core.List.{List}
@@ -70,6 +70,14 @@ line-within s broken v i e = let z : _≡_ {A = ℕ} 0 1 = cc in absurd (omega a
 
 pub key-found : (s k : List ℕ) (from i : ℕ) → placeIn s (key k (drop from s)) ≡ At i → key k (drop from s) ≡ found tt (drop i s)
 key-found s k from i e = place-found (key-exact k) s from i e .1
+
+-- a reader behind a key
+module _ {A : Type 0} (k : List ℕ) (r : List ℕ → Got A) (s : List ℕ) (from : ℕ) where
+  pub keyed : (i : ℕ) → placeIn s (key k (drop from s)) ≡ At i → next (key k (drop from s)) (λ x. r) ≡ r (drop i s)
+  keyed i e = ap (λ g. next g (λ x. r)) (key-found s k from i e)
+
+  pub unkeyed : placeIn s (key k (drop from s)) ≡ Absent → next (key k (drop from s)) (λ x. r) ≡ broken
+  unkeyed e = ap (λ g. next g (λ x. r)) (place-absent s (key k (drop from s)) e)
 
 made-line : (s : List ℕ) (g : Got (Unit {0})) (v i : ℕ) → placeIn s g ≡ At i → lineIn s (next g (λ x. found v)) ≡ Number v i
 made-line s (found x u) v i e = cc

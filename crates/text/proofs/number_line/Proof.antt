@@ -1,9 +1,8 @@
 -- `text::number_line`: the number is read behind the key.
 use mathlib.Core.Path.{sym, ap, _∙_}
-use lib.ListN.{drop}
-use Rattle.text.specs.Read.{key, next, number, numberLine}
+use Rattle.text.specs.Read.{key, number, numberLine}
 use Rattle.text.specs.Answers.{lineIn}
-use Rattle.text.proofs.Places.{place-absent, key-found}
+use Rattle.text.proofs.Places.{keyed, unkeyed}
 use borrow.Author.Needs.{needs}
 use Rattle.text.proofs.number_line.Statement.{statement}
 use Rattle.text.proofs.number_line.Tie as tie
@@ -26,16 +25,16 @@ returns c =
     let i = c .before .before .i in
     let w = c .before .before .before .before in
     let a = w .before .before .before .args in
-    let k = key-found (a .s .now) (a .key .now) (a .at) (i .given .0 .0) (sym (w .skip .ensures) ∙ i .given .1) in
-    c .number .ensures ∙ ap (λ g. lineIn (a .s .now) (next g (λ x. number (a .limit)))) (sym k)
+    let k = keyed (a .key .now) (number (a .limit)) (a .s .now) (a .at) (i .given .0 .0) (sym (w .skip .ensures) ∙ i .given .1) in
+    c .number .ensures ∙ ap (lineIn (a .s .now)) (sym k)
 
 returns-2 : tie.Need-returns-2
 unfolding numberLine
 returns-2 c =
     let w = c .before .before in
     let a = w .before .before .before .args in
-    let k = place-absent (a .s .now) (key (a .key .now) (drop (a .at) (a .s .now))) (sym (w .skip .ensures) ∙ c .enum-told .given .1) in
-    ap (λ g. lineIn (a .s .now) (next g (λ x. number (a .limit)))) (sym k)
+    let k = unkeyed (a .key .now) (number (a .limit)) (a .s .now) (a .at) (sym (w .skip .ensures) ∙ c .enum-told .given .1) in
+    ap (lineIn (a .s .now)) (sym k)
 
 pub number-line-spec : {M : Type 1} → statement M
 number-line-spec =
