@@ -14,7 +14,7 @@ ghost use Rattle.lanes.specs.declared.Bitwise.the-variants.{And, Or, Xor, Merge
 ghost use Rattle.bitwise.specs.Bitwise.{bitwise, bitwiseNot, resultHeader};
 
 // The header of the operator's result.
-fn result_header(op: Bitwise, a: Header, b: Header) -> Header
+pub fn result_header(op: Bitwise, a: Header, b: Header) -> Header
     ensures { λ r. ⌜ r ≡ resultHeader op a b ⌝ }
 {
     let width = larger(a.width, b.width);

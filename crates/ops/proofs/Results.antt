@@ -1,0 +1,71 @@
+-- The results of the ops.
+--     value-word, unknown-word     the two words of a vector of one bit
+--     first-word      the lowest 64 bits of a vector are its word 0
+--     arms-alike      arms that are not refused have one width
+--     result-width    the result has as many bits as its header says
+use mathlib.Core.Path.{_≡_, refl, sym, ap, _∙_, subst}
+use mathlib.Core.Bool.{Bool, true, false, not, _||_}
+use mathlib.Core.List.{List, [], _∷_}
+use Prim.Native.Nat.{ℕ, _/_, _%_, max}
+use native.Mathlib.Nat.{zero-add}
+use native.Mathlib.Omega.{arith}
+use borrow.Author.Tests.{eqb-true}
+use lib.Dec.{T, eqb}
+use lib.ListN.{length}
+use Rattle.bit.specs.declared.LogicBit.{LogicBit}
+use Rattle.bit.specs.declared.LogicBit.the-variants.{Zero, One, X, Z}
+use Rattle.bit.specs.Rules.{code}
+use Rattle.words.specs.Vector.{at, pack}
+use Rattle.words.specs.Planes.{valueDigit, unknownDigit, wordOf, wordAt, packed}
+use Rattle.words.proofs.Planes.{length-tabulate}
+use Rattle.value.specs.declared.Header.{Header}
+use Rattle.value.specs.Checks.{Vector}
+use Rattle.reduce.specs.declared.Truth.{Truth}
+use Rattle.reduce.specs.declared.Truth.the-variants as truth
+use Rattle.reduce.specs.Reduce.{truthOf}
+use Rattle.ops.specs.declared.Op.{Op}
+use Rattle.ops.specs.declared.Kind.{Kind}
+use Rattle.ops.specs.declared.Kind.the-variants as kind
+use Rattle.ops.specs.Ops.{kindOf, armsDiffer, kindRefused, armsRefused, kindHeader, kindBits, selected, opVector}
+
+pub value-word : (b : LogicBit) → code b % 2 ≡ wordOf valueDigit (at (b ∷ [])) 0
+unfolding pack
+value-word Zero = refl
+value-word One = refl
+value-word X = refl
+value-word Z = refl
+
+pub unknown-word : (b : LogicBit) → code b / 2 ≡ wordOf unknownDigit (at (b ∷ [])) 0
+unfolding pack
+unknown-word Zero = refl
+unknown-word One = refl
+unknown-word X = refl
+unknown-word Z = refl
+
+pub first-word : (f : ℕ → LogicBit) → wordAt f 0 ≡ packed f
+first-word f = λ k. packed (λ j. f (zero-add j k))
+
+pub arms-alike : (b c : Header) → armsDiffer b c ≡ false → c .width ≡ b .width
+arms-alike b c h = go (eqb (b .width) (c .width)) refl
+  where
+    go : (z : Bool) → eqb (b .width) (c .width) ≡ z → c .width ≡ b .width
+    go true e = sym (eqb-true (b .width) (c .width) e)
+    go false e = absurd (subst T (sym (ap (λ (z : Bool). not z || (b .«is_fill» || c .«is_fill»)) e) ∙ h) tt)
+
+module _ (a b c : Vector) (pos : ℕ) (ha : length (a .bits) ≡ a .header .width) (hb : length (b .bits) ≡ b .header .width) (hc : length (c .bits) ≡ c .header .width) where
+  select-width : (t : Truth) → armsDiffer (b .header) (c .header) ≡ false → length (selected t b c) ≡ b .header .width
+  select-width truth.True h = hb
+  select-width truth.False h = hc ∙ arms-alike (b .header) (c .header) h
+  select-width truth.Unknown h = length-tabulate _ _ ∙ omega (arith, arms-alike (b .header) (c .header) h)
+
+  kind-width : (k : Kind) → kindRefused k (b .header) (c .header) ≡ false
+      → length (kindBits k a b c pos) ≡ kindHeader k (a .header) (b .header) (c .header) .width
+  kind-width (kind.Join j) h = length-tabulate _ _
+  kind-width kind.Not h = length-tabulate _ _ ∙ ha
+  kind-width (kind.Answer q) h = refl
+  kind-width kind.Select h = select-width (truthOf (a .bits)) h
+  kind-width kind.Insert h = length-tabulate _ _ ∙ ha
+
+  pub result-width : (op : Op) → armsRefused op (b .header) (c .header) ≡ false
+      → length (opVector op a b c pos .bits) ≡ opVector op a b c pos .header .width
+  result-width op h = kind-width (kindOf op) h
