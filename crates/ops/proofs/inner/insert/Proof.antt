@@ -1,5 +1,5 @@
 -- `ops::inner::insert`: the planes of a, and the bits put in there.
-use mathlib.Core.Path.{_≡_, sym, ap, ap₂, _∙_, subst}
+use mathlib.Core.Path.{sym, ap, ap₂, _∙_, subst}
 use Rattle.words.specs.declared.Word.{Word}
 use Rattle.words.specs.Vector.{at}
 use Rattle.words.specs.Planes.{Planes, Plane, fromPlanes, vectorOf, planesOf}

@@ -1,6 +1,5 @@
 -- `ops::inner::select`: by the truth.
 use mathlib.Core.Path.{_≡_, sym, ap, _∙_}
-use Prim.Native.Nat.{max}
 use native.Mathlib.Omega.{arith}
 use Rattle.words.specs.Planes.{fromPlanes, lent, planesOf}
 use Rattle.planes.proofs.Splice.{planes-again}
