@@ -49,6 +49,7 @@ kindOf Insert = kind.Insert
 
 -- ---- how many cells an op names
 
+-- a reduction names one, the others two
 abbrev pub questionOperands : Question → ℕ
 questionOperands question.ReduceAnd = 1
 questionOperands question.ReduceOr = 1
@@ -68,7 +69,7 @@ kindOperands kind.Insert = 2
 abbrev pub operands : Op → ℕ
 operands op = kindOperands (kindOf op)
 
--- ---- refusal 7
+-- ---- "Numbers for what is not done", 7
 
 -- arms of different width, or an arm that is a fill
 abbrev pub armsDiffer : Header → Header → Bool
@@ -104,9 +105,11 @@ opHeader op a b c = kindHeader (kindOf op) a b c
 
 -- ---- the bits of the result
 
+-- the truth of a vector as a bit
 abbrev pub vectorTruth : Vector → LogicBit
 vectorTruth a = truthBit (truthOf (a .bits))
 
+-- "Answer bit": the reductions of a, a comparison of a and b, the truths of both combined
 abbrev pub answerBit : Question → Vector → Vector → LogicBit
 answerBit question.ReduceAnd a b = reduceAnd (a .bits)
 answerBit question.ReduceOr a b = reduceOr (a .bits)
@@ -125,6 +128,7 @@ selected truth.Unknown b c = joined bitwise.Merge b c
 abbrev pub inserted : Vector → Vector → ℕ → List LogicBit
 inserted a b pos = spliced (a .bits) pos (b .header .width) (packed (at (b .bits)))
 
+-- "Result vector" for the ops that join, and for not
 abbrev pub kindBits : Kind → Vector → Vector → Vector → ℕ → List LogicBit
 kindBits (kind.Join j) a b c pos = joined j a b
 kindBits kind.Not a b c pos = inverted (a .bits)

@@ -93,7 +93,7 @@ pub fn operand_count(op: Op) -> usize
 }
 
 // Whether two vectors cannot be the arms of a select: their widths differ, or one is a fill.
-pub fn arms_differ(b: Header, c: Header) -> bool
+fn arms_differ(b: Header, c: Header) -> bool
     ensures { λ r. ⌜ r ≡ armsDiffer b c ⌝ }
 {
     if b.width != c.width {
