@@ -22,8 +22,8 @@
 //     VECTOR = from_u64 OUT NUMBER             BIT = case_eq VECTOR VECTOR, and so casez_eq, casex_eq, wildcard_eq
 //
 // OUT is what the planes lent for a result hold before the call. A call that writes and answers no vector is answered by the bits that it
-// leaves, where leading zeros may be left out; CHANGED is 1 or 0. Where a call is refused, the answer is `!` and the number of the refusal, and the planes lent
-// for writing hold what they held.
+// leaves, where leading zeros may be left out; CHANGED is 1 or 0. Where a call is refused, the answer is `!` and the number of the refusal,
+// and the planes lent for writing hold what they held.
 mod answer;
 mod bits;
 mod operators;
