@@ -28,6 +28,14 @@ pub enum Op {
     Insert,
 }
 
+// One step of a list: its op, and three numbers, of which the first are the cells that the op names; insert takes c as its position.
+pub struct Step {
+    pub op: Op,
+    pub a: u32,
+    pub b: u32,
+    pub c: u32,
+}
+
 // What an op asks whose result is one bit.
 pub enum Question {
     ReduceAnd,

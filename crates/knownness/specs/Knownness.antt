@@ -1,0 +1,141 @@
+-- Document 01, "The runs of demand 3": inputs that refine others, the completions of a step's operands, and what demand 3 claims of a run of
+-- the plain machine.
+use mathlib.Core.Path.{_≡_}
+use mathlib.Core.Bool.{Bool, true, false, not, cond}
+use mathlib.Core.Logic.{_⊎_, _↔_}
+use mathlib.Core.List.{List}
+use Prim.Native.Nat.{ℕ, _+_, _<_}
+use lib.Dec.{T}
+use lib.ListN.{length, getD, take}
+use Rattle.bit.specs.declared.LogicBit.{LogicBit}
+use Rattle.bit.specs.Rules.{known}
+use Rattle.words.specs.Vector.{at}
+use Rattle.value.specs.Checks.{Vector}
+use Rattle.lanes.specs.declared.Bitwise.the-variants as bitwise
+use Rattle.extension.specs.declared.Operator.the-variants as operator
+use Rattle.extension.specs.Extension.{operandAt}
+use Rattle.ops.specs.declared.Op.{Op}
+use Rattle.ops.specs.declared.Op.the-variants.{And, Or, Xor, Not, Merge, ReduceAnd, ReduceOr, ReduceXor, Equal, CaseEqual, CasezEqual, CasexEqual, WildcardEqual, LogicAnd, LogicOr, Select, Insert}
+use Rattle.ops.specs.declared.Step.{Step}
+use Rattle.ops.specs.declared.Kind.{Kind}
+use Rattle.ops.specs.declared.Kind.the-variants as kind
+use Rattle.ops.specs.Ops.{kindOf, opBits}
+use Rattle.machine.specs.Machine.{Room, Run, cellAt, machineRun}
+
+-- ---- the ops
+
+-- the ops of demand 3's lists, all but the case and wildcard comparisons: a step of one keeps known bits
+abbrev pub keepsKnown : Op → Bool
+keepsKnown And = true
+keepsKnown Or = true
+keepsKnown Xor = true
+keepsKnown Not = true
+keepsKnown Merge = true
+keepsKnown ReduceAnd = true
+keepsKnown ReduceOr = true
+keepsKnown ReduceXor = true
+keepsKnown Equal = true
+keepsKnown CaseEqual = false
+keepsKnown CasezEqual = false
+keepsKnown CasexEqual = false
+keepsKnown WildcardEqual = false
+keepsKnown LogicAnd = true
+keepsKnown LogicOr = true
+keepsKnown Select = true
+keepsKnown Insert = true
+
+-- the ops whose result is known exactly where all completions agree
+abbrev pub isExact : Op → Bool
+isExact op = keepsKnown op
+
+abbrev pub noStep : Step
+noStep = record { op = And; a = 0; b = 0; c = 0 }
+
+abbrev pub stepAt : List Step → ℕ → Step
+stepAt ss k = getD ss k noStep
+
+-- a list of demand 3
+abbrev pub AllKeep : List Step → Type 0
+AllKeep ss = (k : ℕ) → T (keepsKnown (stepAt ss k .op))
+
+-- ---- bits
+
+abbrev pub Known : LogicBit → Type 0
+Known b = T (known b)
+
+-- a bit known under the first is the same under the second
+abbrev pub Keeps : LogicBit → LogicBit → Type 0
+Keeps a b = Known a → b ≡ a
+
+-- b is a, or a is unknown and b is 0 or 1
+abbrev pub Refines : LogicBit → LogicBit → Type 0
+Refines a b = (b ≡ a) ⊎ (T (not (known a)) × Known b)
+
+-- r is 0 or 1, and is a if a is
+abbrev pub Completes : LogicBit → LogicBit → Type 0
+Completes a r = Known r × Keeps a r
+
+-- ---- vectors and cells
+
+-- the same header and as many bits, and R at each place
+abbrev pub Pointwise : (LogicBit → LogicBit → Type 0) → Vector → Vector → Type 0
+Pointwise R a b = (b .header ≡ a .header) × (length (b .bits) ≡ length (a .bits)) × ((i : ℕ) → R (at (a .bits) i) (at (b .bits) i))
+
+-- as many cells, and R of each two bits
+abbrev pub Cellwise : (LogicBit → LogicBit → Type 0) → List Vector → List Vector → Type 0
+Cellwise R A B = (length B ≡ length A) × ((j : ℕ) → Pointwise R (cellAt A j) (cellAt B j))
+
+-- each vector has as many bits as its header says
+abbrev pub AllSound : List Vector → Type 0
+AllSound cs = (j : ℕ) → length (cellAt cs j .bits) ≡ cellAt cs j .header .width
+
+abbrev pub NoFill : List Vector → Type 0
+NoFill cs = (j : ℕ) → T (not (cellAt cs j .header .«is_fill»))
+
+-- ---- a step that is known exactly
+
+-- an op whose arms are told apart
+abbrev pub merges : Kind → Bool
+merges (kind.Join bitwise.And) = false
+merges (kind.Join bitwise.Or) = false
+merges (kind.Join bitwise.Xor) = false
+merges (kind.Join bitwise.Merge) = true
+merges kind.Not = false
+merges (kind.Answer q) = false
+merges kind.Select = false
+merges kind.Insert = false
+
+-- the arms of a merge are its two operands, extended
+abbrev pub armAt : (second : Bool) → Vector → Vector → ℕ → LogicBit
+armAt true a b i = operandAt operator.Merge b (a .header) i
+armAt false a b i = operandAt operator.Merge a (b .header) i
+
+-- what the op has at place i of the completed operands; in a merge, either arm
+abbrev pub gives : Op → ℕ → (second : Bool) → Vector → Vector → Vector → ℕ → LogicBit
+gives op pos second a b c i = cond (merges (kindOf op)) (armAt second a b i) (at (opBits op a b c pos) i)
+
+-- every completion of the operands, of each on its own even where two name one cell, gives v at place i
+abbrev pub AllGive : List Vector → Step → ℕ → LogicBit → Type 0
+AllGive cs s i v = (a b c : Vector) → Pointwise Completes (cellAt cs (s .a)) a → Pointwise Completes (cellAt cs (s .b)) b
+    → Pointwise Completes (cellAt cs (s .c)) c → (second : Bool) → gives (s .op) (s .c) second a b c i ≡ v
+
+-- the operands of an equality are of equal width
+abbrev pub EqualWidths : List Vector → Step → Type 0
+EqualWidths cs s = s .op ≡ Equal → cellAt cs (s .a) .header .width ≡ cellAt cs (s .b) .header .width
+
+-- each bit of the cell made is known as v exactly if all completions of the operands give v
+abbrev pub ExactStep : List Vector → Step → Vector → Type 0
+ExactStep cs s made = EqualWidths cs s → (i : ℕ) → i < length (made .bits) → (v : LogicBit) → Known v
+    → (at (made .bits) i ≡ v) ↔ AllGive cs s i v
+
+-- ---- a run of the plain machine
+
+-- so at each step that was run; its operands are the cells before it
+abbrev pub ExactRun : Room → List Vector → List Step → Type 0
+ExactRun r A ss = (k : ℕ) → k < length ss → length A + k < length (machineRun r A ss .cells) → T (isExact (stepAt ss k .op))
+    → ExactStep (take (length A + k) (machineRun r A ss .cells)) (stepAt ss k) (cellAt (machineRun r A ss .cells) (length A + k))
+
+-- the runs on A and on B end alike, and every bit known in a cell under A is the same under B
+pub record Alike (r : Room) (A B : List Vector) (ss : List Step) : Type 0 where
+  pub ending : machineRun r B ss .ending ≡ machineRun r A ss .ending
+  pub kept : AllKeep ss → Cellwise Keeps (machineRun r A ss .cells) (machineRun r B ss .cells)
