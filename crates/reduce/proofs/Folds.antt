@@ -33,7 +33,7 @@ each-bool : (p : Bool → Bool) → T (both p) → (b : Bool) → T (p b)
 each-bool p t true = and-left (p true) (p false) t
 each-bool p t false = and-right (p true) (p false) t
 
-same-eq : (a b : LogicBit) → T (same a b) → a ≡ b
+pub same-eq : (a b : LogicBit) → T (same a b) → a ≡ b
 same-eq a b t = sym (of-code a) ∙ ap ofCode (eqb→eq (code a) (code b) t) ∙ of-code b
 
 -- the bit d if it was seen, else x if an unknown bit was, else e

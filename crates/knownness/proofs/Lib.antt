@@ -1,0 +1,5 @@
+pub mod Bits
+pub mod Readings
+pub mod Forms
+pub mod Equality
+pub mod Ops
