@@ -1,0 +1,149 @@
+-- The runs of the plain machine, whatever its ops are.
+--     header-at, headers-step     the headers of the cells, and of the cells with a step's
+--     arms-accepted     a step that is not refused has arms that are in order
+--     same-ending       a run's ending goes by the headers of the cells it starts from
+--     prefix            the cells that a run starts from stay, in order
+--     at-more, run-all  what holds of each cell that a run starts from, and is handed on by each step, holds of each cell of the run
+--     run-sound, run-plain     so with the number of bits, and with the mark of a fill
+use mathlib.Core.Path.{_≡_, refl, sym, _∙_, subst, ap, ap₂}
+use mathlib.Core.Bool.{Bool, true, false, not, cond}
+use mathlib.Core.List.{List, [], _∷_, _++_, map, append-assoc, append-nil}
+use Prim.Native.Nat.{ℕ, zero, suc}
+use lib.Dec.{T}
+use lib.ListN.{length, List·getD-map}
+use Rattle.refusal.specs.Outcome.{Answer, after}
+use Rattle.refusal.specs.Outcome.Answer.{given, refused}
+use Rattle.value.specs.declared.Header.{Header}
+use Rattle.value.specs.Checks.{Vector}
+use Rattle.ops.specs.declared.Op.{Op}
+use Rattle.ops.specs.declared.Step.{Step}
+use Rattle.ops.specs.declared.Kind.{Kind}
+use Rattle.ops.specs.declared.Kind.the-variants as kind
+use Rattle.ops.specs.Ops.{kindOf, armsRefused, kindHeader, opHeader, opVector}
+use Rattle.ops.proofs.Results.{result-width}
+use Rattle.machine.specs.Machine.{Room, headersOf, noVector, cellAt, headerAt, checkCount, checkNames, checkArms, checkRoom, checkScratch, stepHeader, checkStep, stepCell, Run, onward, runFrom}
+use Rattle.knownness.specs.Knownness.{AllSound, NoFill}
+
+-- ---- headers
+
+pub header-at : (cs : List Vector) (j : ℕ) → headerAt (headersOf cs) j ≡ cellAt cs j .header
+header-at cs j = List·getD-map (λ (c : Vector). c .header) cs j noVector
+
+-- the cells and one more
+abbrev pub more : List Vector → Step → List Vector
+more cs s = cs ++ (stepCell cs s ∷ [])
+
+headers-more : (cs : List Vector) (c : Vector) → headersOf (cs ++ (c ∷ [])) ≡ headersOf cs ++ (c .header ∷ [])
+headers-more [] c = refl
+headers-more (x ∷ xs) c = ap {B = List Header} (λ l. x .header ∷ l) (headers-more xs c)
+
+pub headers-step : (cs : List Vector) (s : Step) → headersOf (more cs s) ≡ headersOf cs ++ (stepHeader (headersOf cs) s ∷ [])
+headers-step cs s =
+    headers-more cs (stepCell cs s)
+    ∙ (λ k. headersOf cs ++ (opHeader (s .op) (sym (header-at cs (s .a)) k) (sym (header-at cs (s .b)) k) (sym (header-at cs (s .c)) k) ∷ []))
+
+-- ---- refusals
+
+passed : Answer Unit → Bool
+passed (given u) = true
+passed (refused n) = false
+
+arms-of : (x y : Answer Unit) (z : Bool) (w : Answer Unit) → T (passed (after x (after y (after (cond z (refused 7) (given tt)) w)))) → z ≡ false
+unfolding passed
+arms-of (refused n) y z w e = absurd e
+arms-of (given t) (refused n) z w e = absurd e
+arms-of (given t) (given u) true w e = absurd e
+arms-of (given t) (given u) false w e = refl
+
+pub arms-accepted : (r : Room) (cs : List Vector) (s : Step) (u : Unit) → checkStep r (headersOf cs) s ≡ given u
+    → armsRefused (s .op) (cellAt cs (s .b) .header) (cellAt cs (s .c) .header) ≡ false
+unfolding checkStep passed
+arms-accepted r cs s u e =
+    let hs : List Header = headersOf cs in
+    let w : ℕ = stepHeader hs s .width in
+    (λ k. armsRefused (s .op) (sym (header-at cs (s .b)) k) (sym (header-at cs (s .c)) k))
+    ∙ arms-of (checkCount hs) (checkNames hs s) (armsRefused (s .op) (headerAt hs (s .b)) (headerAt hs (s .c)))
+    (after (checkRoom r hs w) (checkScratch r w)) (subst (λ (x : Answer Unit). T (passed x)) (sym e) tt)
+
+module _ (r : Room) where
+  -- ---- endings
+
+  pub same-ending : (ss : List Step) (n : ℕ) (cs ds : List Vector) → headersOf ds ≡ headersOf cs → runFrom r ds n ss .ending ≡ runFrom r cs n ss .ending
+  unfolding runFrom
+  same-ending [] n cs ds e = refl
+  same-ending (s ∷ ss) n cs ds e =
+      go (runFrom r (more cs s) (suc n) ss) (runFrom r (more ds s) (suc n) ss) (checkStep r (headersOf cs) s) (checkStep r (headersOf ds) s)
+      (ap (λ hs. checkStep r hs s) e)
+      (same-ending ss (suc n) (more cs s) (more ds s)
+      (headers-step ds s ∙ ap {B = List Header} (λ hs. hs ++ (stepHeader hs s ∷ [])) e ∙ sym (headers-step cs s)))
+    where
+      go : (p q : Run) (o u : Answer Unit) → u ≡ o → q .ending ≡ p .ending → onward u ds n q .ending ≡ onward o cs n p .ending
+      go p q o u f h = ap (λ (u : Answer Unit). onward u ds n q .ending) f ∙ same o
+        where
+          same : (o : Answer Unit) → onward o ds n q .ending ≡ onward o cs n p .ending
+          same (given u) = h
+          same (refused x) = refl
+
+  -- ---- the cells of a run
+
+  pub prefix : (ss : List Step) (n : ℕ) (cs : List Vector) → (rest : List Vector) × (runFrom r cs n ss .cells ≡ cs ++ rest)
+  unfolding runFrom
+  prefix [] n cs = ([], sym (append-nil cs))
+  prefix (s ∷ ss) n cs = go (runFrom r (more cs s) (suc n) ss) (checkStep r (headersOf cs) s) (prefix ss (suc n) (more cs s))
+    where
+      go : (p : Run) (o : Answer Unit) → (rest : List Vector) × (p .cells ≡ more cs s ++ rest) → (rest : List Vector) × (onward o cs n p .cells ≡ cs ++ rest)
+      go p (given u) t = (stepCell cs s ∷ t .0, t .1 ∙ append-assoc cs (stepCell cs s ∷ []) (t .0))
+      go p (refused x) t = ([], sym (append-nil cs))
+
+-- of noVector too, since a cell is read beyond the end
+pub at-more : (P : Vector → Type 0) → P noVector → (cs : List Vector) (c : Vector) → ((j : ℕ) → P (cellAt cs j)) → P c → (j : ℕ) → P (cellAt (cs ++ (c ∷ [])) j)
+at-more P z [] c h p zero = p
+at-more P z [] c h p (suc j) = z
+at-more P z (x ∷ xs) c h p zero = h zero
+at-more P z (x ∷ xs) c h p (suc j) = at-more P z xs c (λ i. h (suc i)) p j
+
+-- P is handed on by each step that is not refused
+abbrev Handed : (Vector → Type 0) → Type 0
+Handed P = (op : Op) (pos : ℕ) (a b c : Vector) → armsRefused op (b .header) (c .header) ≡ false → P a → P b → P c → P (opVector op a b c pos)
+
+module _ (P : Vector → Type 0) (z : P noVector) (handed : Handed P) (r : Room) where
+  step-all : (cs : List Vector) (s : Step) (u : Unit) → checkStep r (headersOf cs) s ≡ given u → ((j : ℕ) → P (cellAt cs j)) → (j : ℕ) → P (cellAt (more cs s) j)
+  step-all cs s u e h =
+      at-more P z cs (stepCell cs s) h
+      (handed (s .op) (s .c) (cellAt cs (s .a)) (cellAt cs (s .b)) (cellAt cs (s .c)) (arms-accepted r cs s u e) (h (s .a)) (h (s .b)) (h (s .c)))
+
+  run-all : (ss : List Step) (n : ℕ) (cs : List Vector) → ((j : ℕ) → P (cellAt cs j)) → (j : ℕ) → P (cellAt (runFrom r cs n ss .cells) j)
+  unfolding runFrom
+  run-all [] n cs h = h
+  run-all (s ∷ ss) n cs h = go (checkStep r (headersOf cs) s) refl (runFrom r (more cs s) (suc n) ss) (run-all ss (suc n) (more cs s))
+    where
+      go : (o : Answer Unit) → checkStep r (headersOf cs) s ≡ o → (p : Run) → (((j : ℕ) → P (cellAt (more cs s) j)) → (j : ℕ) → P (cellAt (p .cells) j))
+          → (j : ℕ) → P (cellAt (onward o cs n p .cells) j)
+      go (given u) e p k = k (step-all cs s u e h)
+      go (refused x) e p k = h
+
+sound-handed : Handed (λ c. length (c .bits) ≡ c .header .width)
+sound-handed op pos a b c e ha hb hc = result-width a b c pos ha hb hc op e
+
+plain-kind : (k : Kind) (a b c : Header) → T (not (a .«is_fill»)) → T (not (kindHeader k a b c .«is_fill»))
+plain-kind (kind.Join j) a b c h = tt
+plain-kind kind.Not a b c h = tt
+plain-kind (kind.Answer q) a b c h = tt
+plain-kind kind.Select a b c h = tt
+plain-kind kind.Insert a b c h = h
+
+plain-handed : Handed (λ c. T (not (c .header .«is_fill»)))
+plain-handed op pos a b c e ha hb hc = plain-kind (kindOf op) (a .header) (b .header) (c .header) ha
+
+module _ (r : Room) (cs : List Vector) where
+  pub step-sound : (s : Step) (u : Unit) → checkStep r (headersOf cs) s ≡ given u → AllSound cs → AllSound (more cs s)
+  step-sound = step-all (λ c. length (c .bits) ≡ c .header .width) refl sound-handed r cs
+
+  pub step-plain : (s : Step) (u : Unit) → checkStep r (headersOf cs) s ≡ given u → NoFill cs → NoFill (more cs s)
+  step-plain = step-all (λ c. T (not (c .header .«is_fill»))) tt plain-handed r cs
+
+  pub run-sound : (ss : List Step) (n : ℕ) → AllSound cs → AllSound (runFrom r cs n ss .cells)
+  run-sound ss n = run-all (λ c. length (c .bits) ≡ c .header .width) refl sound-handed r ss n cs
+
+  pub run-plain : (ss : List Step) (n : ℕ) → NoFill cs → NoFill (runFrom r cs n ss .cells)
+  run-plain ss n = run-all (λ c. T (not (c .header .«is_fill»))) tt plain-handed r ss n cs

@@ -1,0 +1,138 @@
+-- What demand 3 claims of the runs of the plain machine.
+--     headers-again, sound-again, plain-again     cells that are alike place by place have the same headers, and are in order together
+--     alike     the runs on inputs and on inputs that refine them end alike, and bits that are known stay
+--     exact     each step that is run is known exactly
+use mathlib.Core.Path.{_≡_, refl, sym, _∙_, subst, ap, ap₂}
+use mathlib.Core.Bool.{false, not}
+use mathlib.Core.List.{List, [], _∷_, _++_, append-assoc}
+use Prim.Native.Nat.{ℕ, zero, suc, _+_, _<_}
+use native.Mathlib.Omega.{arith}
+use lib.Dec.{T}
+use lib.ListN.{length, take, length-append}
+use lib.Seq.{take-at, getD-at}
+use Rattle.bit.specs.declared.LogicBit.{LogicBit}
+use Rattle.bit.specs.declared.LogicBit.the-variants.{Zero}
+use Rattle.refusal.specs.Outcome.{Answer}
+use Rattle.refusal.specs.Outcome.Answer.{given, refused}
+use Rattle.words.specs.Vector.{at}
+use Rattle.value.specs.declared.Header.{Header}
+use Rattle.value.specs.Checks.{Vector}
+use Rattle.ops.specs.declared.Step.{Step}
+use Rattle.ops.specs.Ops.{armsRefused}
+use Rattle.machine.specs.Machine.{Room, headersOf, noVector, cellAt, checkStep, stepCell, Run, onward, runFrom, machineRun}
+use Rattle.knownness.specs.Knownness.{isExact, keepsKnown, stepAt, AllKeep, Keeps, Refines, Pointwise, Cellwise, AllSound, NoFill, ExactStep, ExactRun, Alike}
+use Rattle.knownness.proofs.Bits.{refines-keeps, keeps-refl}
+use Rattle.knownness.proofs.Steps.{Accepted, width-again, op-keeps, op-exact}
+use Rattle.knownness.proofs.Machine.{more, arms-accepted, same-ending, prefix, step-sound, step-plain}
+
+-- ---- cells that are alike place by place
+
+module _ (R : LogicBit → LogicBit → Type 0) where
+  pub headers-again : (A B : List Vector) → Cellwise R A B → headersOf B ≡ headersOf A
+  headers-again [] [] h = refl
+  headers-again [] (y ∷ ys) h = absurd (let e = h .0 in omega arith)
+  headers-again (x ∷ xs) [] h = absurd (let e = h .0 in omega arith)
+  headers-again (x ∷ xs) (y ∷ ys) h =
+      ap₂ {C = List Header} (λ u us. u ∷ us) (h .1 zero .0) (headers-again xs ys (let e = h .0 in omega arith, λ j. h .1 (suc j)))
+
+  pub sound-again : (A B : List Vector) → Cellwise R A B → AllSound A → AllSound B
+  sound-again A B h s j = width-again R (cellAt A j) (cellAt B j) (h .1 j) (s j)
+
+  pub plain-again : (A B : List Vector) → Cellwise R A B → NoFill A → NoFill B
+  plain-again A B h n j = subst (λ (x : Header). T (not (x .«is_fill»))) (sym (h .1 j .0)) (n j)
+
+refined-keeps : (A B : List Vector) → Cellwise Refines A B → Cellwise Keeps A B
+refined-keeps A B h = (
+  h .0,
+  λ j. (h .1 j .0, h .1 j .1, λ i. refines-keeps (at (cellAt A j .bits) i) (at (cellAt B j .bits) i) (h .1 j .2 i)),
+)
+
+keeps-more-at : (cs ds : List Vector) (c d : Vector) → Cellwise Keeps cs ds → Pointwise Keeps c d
+    → (j : ℕ) → Pointwise Keeps (cellAt (cs ++ (c ∷ [])) j) (cellAt (ds ++ (d ∷ [])) j)
+keeps-more-at [] [] c d h p zero = p
+keeps-more-at [] [] c d h p (suc j) = (refl, refl, λ i. keeps-refl Zero)
+keeps-more-at [] (y ∷ ys) c d h p j = absurd (let e = h .0 in omega arith)
+keeps-more-at (x ∷ xs) [] c d h p j = absurd (let e = h .0 in omega arith)
+keeps-more-at (x ∷ xs) (y ∷ ys) c d h p zero = h .1 zero
+keeps-more-at (x ∷ xs) (y ∷ ys) c d h p (suc j) = keeps-more-at xs ys c d (let e = h .0 in omega arith, λ i. h .1 (suc i)) p j
+
+keeps-more : (cs ds : List Vector) (c d : Vector) → Cellwise Keeps cs ds → Pointwise Keeps c d → Cellwise Keeps (cs ++ (c ∷ [])) (ds ++ (d ∷ []))
+keeps-more cs ds c d h p =
+    (length-append ds (d ∷ []) ∙ ap (λ n. n + 1) (h .0) ∙ sym (length-append cs (c ∷ [])), keeps-more-at cs ds c d h p)
+
+-- ---- one step
+
+accepted : (cs : List Vector) (s : Step) → AllSound cs → armsRefused (s .op) (cellAt cs (s .b) .header) (cellAt cs (s .c) .header) ≡ false
+    → Accepted (s .op) (cellAt cs (s .a)) (cellAt cs (s .b)) (cellAt cs (s .c))
+accepted cs s a e = record { first = a (s .a); second = a (s .b); third = a (s .c); arms = e }
+
+module _ (r : Room) where
+  step-exact : (cs : List Vector) (s : Step) (u : Unit) → checkStep r (headersOf cs) s ≡ given u → AllSound cs → NoFill cs → T (isExact (s .op))
+      → ExactStep cs s (stepCell cs s)
+  step-exact cs s u e a n k w i l v kv =
+      op-exact (s .op) (s .c) (cellAt cs (s .a)) (cellAt cs (s .b)) (cellAt cs (s .c)) (accepted cs s a (arms-accepted r cs s u e)) k i l v kv
+      (λ q. record { left = a (s .a); right = a (s .b); widths = w q; left-plain = n (s .a); right-plain = n (s .b) })
+
+  -- ---- the run
+
+  kept : (ss : List Step) → AllKeep ss → (n : ℕ) (cs ds : List Vector) → AllSound cs → Cellwise Keeps cs ds
+      → Cellwise Keeps (runFrom r cs n ss .cells) (runFrom r ds n ss .cells)
+  unfolding runFrom
+  kept [] l n cs ds a h = h
+  kept (s ∷ ss) l n cs ds a h =
+      go (runFrom r (more cs s) (suc n) ss) (runFrom r (more ds s) (suc n) ss) (checkStep r (headersOf cs) s) (checkStep r (headersOf ds) s)
+      (ap (λ hs. checkStep r hs s) (headers-again Keeps cs ds h)) refl (kept ss (λ k. l (suc k)) (suc n) (more cs s) (more ds s))
+    where
+      step : (u : Unit) → checkStep r (headersOf cs) s ≡ given u → Cellwise Keeps (more cs s) (more ds s)
+      step u e =
+          keeps-more cs ds (stepCell cs s) (stepCell ds s) h
+          (op-keeps (s .op) (s .c) (cellAt cs (s .a)) (cellAt cs (s .b)) (cellAt cs (s .c)) (accepted cs s a (arms-accepted r cs s u e))
+          (cellAt ds (s .a)) (cellAt ds (s .b)) (cellAt ds (s .c)) (h .1 (s .a)) (h .1 (s .b)) (h .1 (s .c)) (l zero))
+
+      go : (p q : Run) (o u : Answer Unit) → u ≡ o → checkStep r (headersOf cs) s ≡ o
+          → (AllSound (more cs s) → Cellwise Keeps (more cs s) (more ds s) → Cellwise Keeps (p .cells) (q .cells))
+          → Cellwise Keeps (onward o cs n p .cells) (onward u ds n q .cells)
+      go p q o u f e k = subst (λ (u : Answer Unit). Cellwise Keeps (onward o cs n p .cells) (onward u ds n q .cells)) (sym f) (same o e)
+        where
+          same : (o : Answer Unit) → checkStep r (headersOf cs) s ≡ o → Cellwise Keeps (onward o cs n p .cells) (onward o ds n q .cells)
+          same (given u) e = k (step-sound r cs s u e a) (step u e)
+          same (refused x) e = h
+
+  -- the step after the cells that stand before m
+  abbrev ExactAt : List Vector → List Step → ℕ → ℕ → Type 0
+  ExactAt cells ss m k = m < length cells → T (isExact (stepAt ss k .op)) → ExactStep (take m cells) (stepAt ss k) (cellAt cells m)
+
+  exact-from : (ss : List Step) (n : ℕ) (cs : List Vector) → AllSound cs → NoFill cs → (k : ℕ) → k < length ss
+      → ExactAt (runFrom r cs n ss .cells) ss (length cs + k) k
+  unfolding runFrom
+  exact-from [] n cs a f k h = absurd (omega arith)
+  exact-from (s ∷ ss) n cs a f k h =
+      go (runFrom r (more cs s) (suc n) ss) (checkStep r (headersOf cs) s) refl k h (prefix r ss (suc n) (more cs s)) (exact-from ss (suc n) (more cs s))
+    where
+      len : length (more cs s) ≡ length cs + 1
+      len = length-append cs (stepCell cs s ∷ [])
+
+      go : (p : Run) (o : Answer Unit) → checkStep r (headersOf cs) s ≡ o → (k : ℕ) → k < length (s ∷ ss)
+          → (rest : List Vector) × (p .cells ≡ more cs s ++ rest)
+          → (AllSound (more cs s) → NoFill (more cs s) → (k : ℕ) → k < length ss → ExactAt (p .cells) ss (length (more cs s) + k) k)
+          → ExactAt (onward o cs n p .cells) (s ∷ ss) (length cs + k) k
+      go p (refused x) e k h t ih q l = absurd (omega arith)
+      go p (given u) e zero h t ih q l =
+          let w : p .cells ≡ cs ++ (stepCell cs s ∷ t .0) = t .1 ∙ append-assoc cs (stepCell cs s ∷ []) (t .0) in
+          let m : length cs ≡ length cs + 0 = omega arith in
+          let x : cs ≡ take (length cs + 0) (p .cells) = sym (ap (take (length cs + 0)) w ∙ take-at cs (stepCell cs s ∷ t .0) (length cs + 0) m) in
+          let y : stepCell cs s ≡ cellAt (p .cells) (length cs + 0) =
+          sym (ap (λ z. cellAt z (length cs + 0)) w ∙ getD-at cs (stepCell cs s) (t .0) noVector (length cs + 0) m) in
+          subst (λ z. ExactStep (take (length cs + 0) (p .cells)) s z) y (subst (λ z. ExactStep z s (stepCell cs s)) x (step-exact cs s u e a f l))
+      go p (given u) e (suc k) h t ih q l =
+          let d : length (more cs s) + k ≡ length cs + suc k = omega (arith, len) in
+          subst (λ m. ExactAt (p .cells) ss m k) d (ih (step-sound r cs s u e a) (step-plain r cs s u e f) k (omega arith)) q l
+
+pub alike : (r : Room) (A B : List Vector) (ss : List Step) → AllSound A → Cellwise Refines A B → Alike r A B ss
+alike r A B ss a h = record {
+  ending = same-ending r ss 1 A B (headers-again Refines A B h);
+  kept = λ l. kept r ss l 1 A B a (refined-keeps A B h);
+}
+
+pub exact : (r : Room) (A : List Vector) (ss : List Step) → AllSound A → NoFill A → ExactRun r A ss
+exact r A ss a f k h = exact-from r ss 1 A a f k h
