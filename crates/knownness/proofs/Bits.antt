@@ -1,11 +1,11 @@
 -- The rules of single bits: each keeps known bits, is known at known bits, and every completion of its value is its value at some completion of
 -- its bits. One computed test a rule.
---     keeps-refl, refines-keeps, completes-keeps     the relations on bits
---     Rule, Exact, of-and ..     a rule of three bits that is exact so, and the rules that are
---     selectBit     the rule of a select: a merge if the truth is unknown
+--     keeps-refl, refines-keeps     the relations on bits
+--     Rule, ExactRule     a rule of three bits, and one that is exact so
+--     exact-and ..        the rules that are; selectBit has the truth of a select first, sameBit is one place of an equality
 use mathlib.Core.Path.{_≡_, refl, sym, subst}
-use mathlib.Core.Bool.{Bool, true, false, not, _&&_, _||_, cond}
-use mathlib.Core.Logic.{_⊎_, inl, inr}
+use mathlib.Core.Bool.{Bool, true, false, not, _&&_, _||_}
+use mathlib.Core.Logic.{inl, inr}
 use lib.Dec.{T}
 use Rattle.bit.specs.declared.LogicBit.{LogicBit}
 use Rattle.bit.specs.declared.LogicBit.the-variants.{Zero, One, X, Z}
@@ -150,7 +150,8 @@ module _ (g : Rule) where
       record {
         mono = λ t t′ a a′ b b′ ht ha hb. keeps-told (g t a b) (g t′ a′ b′)
             (by-three (keeps t t′) (keeps a a′) (keeps b b′) (keeps (g t a b) (g t′ a′ b′))
-            (each2 (monoAt t t′ a a′) (each2 (λ a a′. all2 (monoAt t t′ a a′)) (each2 (λ t t′. all2 λ a a′. all2 (monoAt t t′ a a′)) (and-left m (k && f) p) t t′) a a′) b b′)
+            (each2 (monoAt t t′ a a′)
+            (each2 (λ a a′. all2 (monoAt t t′ a a′)) (each2 (λ t t′. all2 λ a a′. all2 (monoAt t t′ a a′)) (and-left m (k && f) p) t t′) a a′) b b′)
             (keeps-test t t′ ht) (keeps-test a a′ ha) (keeps-test b b′ hb));
         known = λ t a b ht ha hb. by-three (known t) (known a) (known b) (known (g t a b))
             (each (knownAt t a) (each2 (λ t a. all (knownAt t a)) (and-left k f q) t a) b) ht ha hb;

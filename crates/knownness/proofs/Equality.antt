@@ -23,9 +23,9 @@ use Rattle.reduce.proofs.Folds.{and-fold}
 use Rattle.scan.specs.declared.Comparison.the-variants as comparison
 use Rattle.scan.specs.Compared.{compared}
 use Rattle.scan.proofs.Places.{compared-and}
-use Rattle.knownness.specs.Knownness.{Known, Keeps, Completes, Pointwise}
+use Rattle.knownness.specs.Knownness.{Known, Keeps, Completes}
 use Rattle.knownness.proofs.Bits.{sameBit, exact-and, exact-same, keeps-refl}
-use Rattle.knownness.proofs.Readings.{KnownBits, Bitwise, someone, of-operand, inside, no-bits, one-more, fold-mono, fold-known}
+use Rattle.knownness.proofs.Readings.{KnownBits, Listwise, a-completion, of-operand, inside, no-bits, one-more, fold-mono, fold-known}
 use Rattle.knownness.proofs.Forms.{Form, Realized, Mono, Exact, of-two}
 
 pub operand-inside : (op : Operator) (a : Vector) (b : Header) (i : ℕ) → T (not (a .header .«is_fill»)) → i < length (a .bits)
@@ -40,8 +40,8 @@ operand-inside op a b i n l = go (a .header .«is_fill») n ∙ inside (a .bits)
 abbrev sameAt : ℕ → Form
 sameAt i t a b c = sameBit (operandAt operator.Equal a (b .header) i) (operandAt operator.Equal b (a .header) i)
 
-of-place : (i : ℕ) → Exact (λ a b c. Unit) (sameAt i)
-of-place i =
+of-same : (i : ℕ) → Exact (λ a b c. Unit) (sameAt i)
+of-same i =
     of-two (λ a b c. Unit) (λ s t. sameBit) (λ s. exact-same) (λ s a. operandAt operator.Equal a (s .right) i) (λ s b. operandAt operator.Equal b (s .left) i)
     (λ s. of-operand operator.Equal (s .right) i) (λ s. of-operand operator.Equal (s .left) i)
 
@@ -69,7 +69,7 @@ equal-mono t t′ a a′ b b′ c c′ ht ha hb hc =
     let g : ℕ → LogicBit = λ i. sameAt i t′ a′ b′ c′ in
     let k : Keeps (foldr andBit One (tabulate n f)) (foldr andBit One (tabulate n g)) =
     fold-mono andBit One exact-and (tabulate n f) (tabulate n g)
-    (length-tabulate n g ∙ sym (length-tabulate n f), tabulate-keeps n f g (λ i. of-place i .mono t t′ a a′ b b′ c c′ ht ha hb hc)) in
+    (length-tabulate n g ∙ sym (length-tabulate n f), tabulate-keeps n f g (λ i. of-same i .mono t t′ a a′ b b′ c c′ ht ha hb hc)) in
     subst (λ (x : LogicBit). Keeps x (compared comparison.Equal a′ b′)) (equal-fold t a b c)
     (subst (Keeps (foldr andBit One (tabulate n f)))
     (ap₂ (λ (x y : Header). foldr andBit One (tabulate (larger x y) g)) (sym (ha .0)) (sym (hb .0)) ∙ equal-fold t′ a′ b′ c′) k)
@@ -79,7 +79,7 @@ equal-known a b ka kb =
     let n : ℕ = larger (a .header) (b .header) in
     let f : ℕ → LogicBit = λ i. sameAt i Zero a b a in
     subst Known (equal-fold Zero a b a)
-    (fold-known andBit One exact-and tt (tabulate n f) (tabulate-known n f (λ i. of-place i .known Zero a b a tt ka kb ka)))
+    (fold-known andBit One exact-and tt (tabulate n f) (tabulate-known n f (λ i. of-same i .known Zero a b a tt ka kb ka)))
 
 -- operands of equal width that are no fills
 pub record Paired (a b : Vector) : Type 0 where
@@ -106,7 +106,7 @@ equal-paired a b h =
     (operand-inside operator.Equal b (a .header) i (h .right-plain) (omega (arith, h .left, h .right, h .widths)))))
 
 paired-full : (a b : List LogicBit) → length b ≡ length a → (r : LogicBit) → Completes (paired (length a) a b) r
-    → (a′ : List LogicBit) × (b′ : List LogicBit) × Bitwise Completes a a′ × Bitwise Completes b b′ × (paired (length a) a′ b′ ≡ r)
+    → (a′ : List LogicBit) × (b′ : List LogicBit) × Listwise Completes a a′ × Listwise Completes b b′ × (paired (length a) a′ b′ ≡ r)
 unfolding paired tabulate
 paired-full [] [] e r h = ([], [], no-bits, no-bits, sym (h .1 tt))
 paired-full [] (y ∷ ys) e r h = absurd (omega arith)
@@ -138,7 +138,7 @@ module _ (C : Vector → Vector → Vector → Type 0) (paired-by : (a b c : Vec
         left-plain = p .left-plain;
         right-plain = p .right-plain;
       } in
-      let o = someone c in
+      let o = a-completion c in
       record {
         t′ = Zero;
         a′ = u;

@@ -12,7 +12,7 @@ use Rattle.value.specs.declared.Header.{Header}
 use Rattle.value.specs.Checks.{Vector}
 use Rattle.knownness.specs.Knownness.{Known, Keeps, Completes, Pointwise}
 use Rattle.knownness.proofs.Bits.{Rule, ExactRule}
-use Rattle.knownness.proofs.Readings.{KnownBits, someone, Reading}
+use Rattle.knownness.proofs.Readings.{KnownBits, a-completion, Reading}
 
 abbrev pub Form : Type 0
 Form = LogicBit → Vector → Vector → Vector → LogicBit
@@ -73,7 +73,7 @@ module _ (C : Vector → Vector → Vector → Type 0) (g : Frame → Rule) (G :
         let w = G s .full X (P s a) (Q s b) r h in
         let u = p s .full a (w .a′) (w .second) in
         let v = q s .full b (w .b′) (w .third) in
-        let o = someone c in
+        let o = a-completion c in
         record {
           t′ = w .t′;
           a′ = u .0;
@@ -83,7 +83,8 @@ module _ (C : Vector → Vector → Vector → Type 0) (g : Frame → Rule) (G :
           first = u .1;
           second = v .1;
           third = o .1;
-          gives = sym (ap (λ (s : Frame). by-frame s (w .t′) (u .0) (v .0) (o .0)) (frame-same Completes a (u .0) b (v .0) (u .1) (v .1))) ∙ ap₂ (g s (w .t′)) (u .2) (v .2) ∙ w .gives;
+          gives = sym (ap (λ (s : Frame). by-frame s (w .t′) (u .0) (v .0) (o .0)) (frame-same Completes a (u .0) b (v .0) (u .1) (v .1)))
+              ∙ ap₂ (g s (w .t′)) (u .2) (v .2) ∙ w .gives;
         };
   }
 

@@ -3,12 +3,14 @@
 --     arms-accepted     a step that is not refused has arms that are in order
 --     same-ending       a run's ending goes by the headers of the cells it starts from
 --     prefix            the cells that a run starts from stay, in order
---     at-more, run-all  what holds of each cell that a run starts from, and is handed on by each step, holds of each cell of the run
---     run-sound, run-plain     so with the number of bits, and with the mark of a fill
-use mathlib.Core.Path.{_≡_, refl, sym, _∙_, subst, ap, ap₂}
+--     at-more           what holds of all cells holds with one more
+--     step-sound, run-sound     each cell of a step and of a run has as many bits as its header says, if the cells before do
+--     step-plain, run-plain     no cell of a step or of a run is a fill, if none before is
+use mathlib.Core.Path.{_≡_, refl, sym, _∙_, subst, ap}
 use mathlib.Core.Bool.{Bool, true, false, not, cond}
-use mathlib.Core.List.{List, [], _∷_, _++_, map, append-assoc, append-nil}
+use mathlib.Core.List.{List, [], _∷_, _++_, append-assoc, append-nil}
 use Prim.Native.Nat.{ℕ, zero, suc}
+use native.Mathlib.Omega.{arith}
 use lib.Dec.{T}
 use lib.ListN.{length, List·getD-map}
 use Rattle.refusal.specs.Outcome.{Answer, after}
@@ -21,7 +23,7 @@ use Rattle.ops.specs.declared.Kind.{Kind}
 use Rattle.ops.specs.declared.Kind.the-variants as kind
 use Rattle.ops.specs.Ops.{kindOf, armsRefused, kindHeader, opHeader, opVector}
 use Rattle.ops.proofs.Results.{result-width}
-use Rattle.machine.specs.Machine.{Room, headersOf, noVector, cellAt, headerAt, checkCount, checkNames, checkArms, checkRoom, checkScratch, stepHeader, checkStep, stepCell, Run, onward, runFrom}
+use Rattle.machine.specs.Machine.{Room, headersOf, noVector, cellAt, headerAt, checkCount, checkNames, checkRoom, checkScratch, stepHeader, checkStep, stepCell, Run, onward, runFrom}
 use Rattle.knownness.specs.Knownness.{AllSound, NoFill}
 
 -- ---- headers
@@ -95,30 +97,35 @@ module _ (r : Room) where
       go p (given u) t = (stepCell cs s ∷ t .0, t .1 ∙ append-assoc cs (stepCell cs s ∷ []) (t .0))
       go p (refused x) t = ([], sym (append-nil cs))
 
--- of noVector too, since a cell is read beyond the end
-pub at-more : (P : Vector → Type 0) → P noVector → (cs : List Vector) (c : Vector) → ((j : ℕ) → P (cellAt cs j)) → P c → (j : ℕ) → P (cellAt (cs ++ (c ∷ [])) j)
-at-more P z [] c h p zero = p
-at-more P z [] c h p (suc j) = z
-at-more P z (x ∷ xs) c h p zero = h zero
-at-more P z (x ∷ xs) c h p (suc j) = at-more P z xs c (λ i. h (suc i)) p j
+-- what holds of two lists of cells, cell by cell, holds with one more on each; of noVector too, since a cell is read beyond the end
+pub at-more : (R : Vector → Vector → Type 0) → R noVector noVector → (cs ds : List Vector) (c d : Vector) → length ds ≡ length cs
+    → ((j : ℕ) → R (cellAt cs j) (cellAt ds j)) → R c d → (j : ℕ) → R (cellAt (cs ++ (c ∷ [])) j) (cellAt (ds ++ (d ∷ [])) j)
+at-more R z [] [] c d e h p zero = p
+at-more R z [] [] c d e h p (suc j) = z
+at-more R z [] (y ∷ ys) c d e h p j = absurd (omega arith)
+at-more R z (x ∷ xs) [] c d e h p j = absurd (omega arith)
+at-more R z (x ∷ xs) (y ∷ ys) c d e h p zero = h zero
+at-more R z (x ∷ xs) (y ∷ ys) c d e h p (suc j) = at-more R z xs ys c d (omega arith) (λ i. h (suc i)) p j
 
--- P is handed on by each step that is not refused
+abbrev Each : (Vector → Type 0) → List Vector → Type 0
+Each P cs = (j : ℕ) → P (cellAt cs j)
+
+-- P is handed on by each op that does not refuse its arms
 abbrev Handed : (Vector → Type 0) → Type 0
 Handed P = (op : Op) (pos : ℕ) (a b c : Vector) → armsRefused op (b .header) (c .header) ≡ false → P a → P b → P c → P (opVector op a b c pos)
 
 module _ (P : Vector → Type 0) (z : P noVector) (handed : Handed P) (r : Room) where
-  step-all : (cs : List Vector) (s : Step) (u : Unit) → checkStep r (headersOf cs) s ≡ given u → ((j : ℕ) → P (cellAt cs j)) → (j : ℕ) → P (cellAt (more cs s) j)
+  step-all : (cs : List Vector) (s : Step) (u : Unit) → checkStep r (headersOf cs) s ≡ given u → Each P cs → Each P (more cs s)
   step-all cs s u e h =
-      at-more P z cs (stepCell cs s) h
+      at-more (λ c d. P c) z cs cs (stepCell cs s) (stepCell cs s) refl h
       (handed (s .op) (s .c) (cellAt cs (s .a)) (cellAt cs (s .b)) (cellAt cs (s .c)) (arms-accepted r cs s u e) (h (s .a)) (h (s .b)) (h (s .c)))
 
-  run-all : (ss : List Step) (n : ℕ) (cs : List Vector) → ((j : ℕ) → P (cellAt cs j)) → (j : ℕ) → P (cellAt (runFrom r cs n ss .cells) j)
+  run-all : (ss : List Step) (n : ℕ) (cs : List Vector) → Each P cs → Each P (runFrom r cs n ss .cells)
   unfolding runFrom
   run-all [] n cs h = h
   run-all (s ∷ ss) n cs h = go (checkStep r (headersOf cs) s) refl (runFrom r (more cs s) (suc n) ss) (run-all ss (suc n) (more cs s))
     where
-      go : (o : Answer Unit) → checkStep r (headersOf cs) s ≡ o → (p : Run) → (((j : ℕ) → P (cellAt (more cs s) j)) → (j : ℕ) → P (cellAt (p .cells) j))
-          → (j : ℕ) → P (cellAt (onward o cs n p .cells) j)
+      go : (o : Answer Unit) → checkStep r (headersOf cs) s ≡ o → (p : Run) → (Each P (more cs s) → Each P (p .cells)) → Each P (onward o cs n p .cells)
       go (given u) e p k = k (step-all cs s u e h)
       go (refused x) e p k = h
 

@@ -2,7 +2,7 @@
 --     formAt        place i of the result; of a merge, with the bit that chooses its arm
 --     made-form, given-form     the result has that at place i, and a completion gives it
 --     Law, law      the form of an op keeps known bits if the op does, and is exact if the op is
-use mathlib.Core.Path.{_≡_, refl, sym, _∙_, ap, ap₂, subst}
+use mathlib.Core.Path.{_≡_, refl, _∙_, ap, ap₂, subst}
 use mathlib.Core.Bool.{Bool, true, false, not, _&&_, _||_, cond}
 use mathlib.Core.List.{[], _∷_}
 use Prim.Native.Nat.{ℕ, zero, suc, _+_, _-_, _<_}
@@ -14,12 +14,11 @@ use lib.ListN.{length}
 use Rattle.bit.specs.declared.LogicBit.{LogicBit}
 use Rattle.bit.specs.declared.LogicBit.the-variants.{Zero, One, X}
 use Rattle.bit.specs.Rules.{andBit, orBit, xorBit, notBit}
-use Rattle.words.specs.Vector.{tabulate, at}
+use Rattle.words.specs.Vector.{at}
 use Rattle.words.specs.Planes.{packed, bitOf}
 use Rattle.words.proofs.Planes.{length-tabulate, getD-tabulate}
 use Rattle.planes.specs.Entries.{spliceCount, within}
 use Rattle.planes.proofs.Splice.{packed-bit}
-use Rattle.value.specs.declared.Header.{Header}
 use Rattle.value.specs.Checks.{Vector}
 use Rattle.lanes.specs.declared.Bitwise.{Bitwise}
 use Rattle.lanes.specs.declared.Bitwise.the-variants as bitwise
@@ -36,7 +35,7 @@ use Rattle.ops.specs.declared.Op.{Op}
 use Rattle.ops.specs.declared.Op.the-variants.{And, Or, Xor, Not, Merge, ReduceAnd, ReduceOr, ReduceXor, Equal, CaseEqual, CasezEqual, CasexEqual, WildcardEqual, LogicAnd, LogicOr, Select, Insert}
 use Rattle.ops.specs.declared.Kind.{Kind}
 use Rattle.ops.specs.declared.Kind.the-variants as kind
-use Rattle.ops.specs.Ops.{kindOf, armsDiffer, kindRefused, answerBit, vectorTruth, selected, kindBits}
+use Rattle.ops.specs.Ops.{kindOf, kindRefused, answerBit, vectorTruth, selected, kindBits}
 use Rattle.ops.proofs.Results.{arms-alike}
 use Rattle.knownness.specs.Knownness.{keepsKnown, isExact, merges, armAt}
 use Rattle.knownness.proofs.Bits.{Rule, ExactRule, selectBit, exact-and, exact-or, exact-xor, exact-not, exact-left, exact-right, exact-select}

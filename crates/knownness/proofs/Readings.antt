@@ -1,7 +1,7 @@
 -- What is read of one vector: a bit of it, a bit of it as an operand, a reduction. Each reading keeps known bits, is known of a known vector, and
 -- every completion of what is read is read of some completion of the vector.
 --     inside              a place below the width is read as it stands
---     completed, someone     a vector with each unknown bit made r; a vector has a completion
+--     a-completion        every vector has one
 --     Reading             the three properties
 --     of-bit, of-operand, of-and, of-or, of-xor, of-truth     the readings
 use mathlib.Core.Path.{_≡_, refl, sym, _∙_, subst, ap}
@@ -30,8 +30,8 @@ abbrev pub KnownBits : List LogicBit → Type 0
 KnownBits bs = (i : ℕ) → Known (at bs i)
 
 -- as many bits, and R at each place
-abbrev pub Bitwise : (LogicBit → LogicBit → Type 0) → List LogicBit → List LogicBit → Type 0
-Bitwise R a b = (length b ≡ length a) × ((i : ℕ) → R (at a i) (at b i))
+abbrev pub Listwise : (LogicBit → LogicBit → Type 0) → List LogicBit → List LogicBit → Type 0
+Listwise R a b = (length b ≡ length a) × ((i : ℕ) → R (at a i) (at b i))
 
 -- ---- a completion
 
@@ -67,8 +67,8 @@ completed-completes r a k = (
   λ i. subst (Completes (at (a .bits) i)) (sym (completed-at r a i)) (made-completes r (at (a .bits) i) k),
 )
 
-pub someone : (a : Vector) → (a′ : Vector) × Pointwise Completes a a′
-someone a = (completed Zero a, completed-completes Zero a tt)
+pub a-completion : (a : Vector) → (a′ : Vector) × Pointwise Completes a a′
+a-completion a = (completed Zero a, completed-completes Zero a tt)
 
 -- ---- a reading
 
@@ -124,10 +124,10 @@ of-operand op b i =
 
 -- ---- a reduction
 
-pub no-bits : Bitwise Completes [] []
+pub no-bits : Listwise Completes [] []
 no-bits = (refl, λ i. (tt, λ k. refl))
 
-pub one-more : (x y : LogicBit) (xs ys : List LogicBit) → Completes x y → Bitwise Completes xs ys → Bitwise Completes (x ∷ xs) (y ∷ ys)
+pub one-more : (x y : LogicBit) (xs ys : List LogicBit) → Completes x y → Listwise Completes xs ys → Listwise Completes (x ∷ xs) (y ∷ ys)
 one-more x y xs ys h t = (ap suc (t .0), go)
   where
     go : (i : ℕ) → Completes (at (x ∷ xs) i) (at (y ∷ ys) i)
@@ -135,7 +135,7 @@ one-more x y xs ys h t = (ap suc (t .0), go)
     go (suc i) = t .1 i
 
 module _ (f : LogicBit → LogicBit → LogicBit) (e : LogicBit) (G : ExactRule (λ t. f)) where
-  pub fold-mono : (a b : List LogicBit) → Bitwise Keeps a b → Keeps (foldr f e a) (foldr f e b)
+  pub fold-mono : (a b : List LogicBit) → Listwise Keeps a b → Keeps (foldr f e a) (foldr f e b)
   fold-mono [] [] h = keeps-refl e
   fold-mono [] (y ∷ ys) h = absurd (let q = h .0 in omega arith)
   fold-mono (x ∷ xs) [] h = absurd (let q = h .0 in omega arith)
@@ -146,7 +146,7 @@ module _ (f : LogicBit → LogicBit → LogicBit) (e : LogicBit) (G : ExactRule 
   fold-known q [] k = q
   fold-known q (x ∷ xs) k = G .known Zero x (foldr f e xs) tt (k zero) (fold-known q xs (λ i. k (suc i)))
 
-  fold-full : Known e → (a : List LogicBit) (r : LogicBit) → Completes (foldr f e a) r → (b : List LogicBit) × Bitwise Completes a b × (foldr f e b ≡ r)
+  fold-full : Known e → (a : List LogicBit) (r : LogicBit) → Completes (foldr f e a) r → (b : List LogicBit) × Listwise Completes a b × (foldr f e b ≡ r)
   fold-full q [] r h = ([], no-bits, sym (h .1 q))
   fold-full q (x ∷ xs) r h =
       let w = G .full X x (foldr f e xs) r h in

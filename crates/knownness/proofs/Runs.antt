@@ -19,11 +19,11 @@ use Rattle.value.specs.declared.Header.{Header}
 use Rattle.value.specs.Checks.{Vector}
 use Rattle.ops.specs.declared.Step.{Step}
 use Rattle.ops.specs.Ops.{armsRefused}
-use Rattle.machine.specs.Machine.{Room, headersOf, noVector, cellAt, checkStep, stepCell, Run, onward, runFrom, machineRun}
-use Rattle.knownness.specs.Knownness.{isExact, keepsKnown, stepAt, AllKeep, Keeps, Refines, Pointwise, Cellwise, AllSound, NoFill, ExactStep, ExactRun, Alike}
+use Rattle.machine.specs.Machine.{Room, headersOf, noVector, cellAt, checkStep, stepCell, Run, onward, runFrom}
+use Rattle.knownness.specs.Knownness.{isExact, stepAt, AllKeep, Keeps, Refines, Pointwise, Cellwise, AllSound, NoFill, ExactStep, ExactRun, Alike}
 use Rattle.knownness.proofs.Bits.{refines-keeps, keeps-refl}
 use Rattle.knownness.proofs.Steps.{Accepted, width-again, op-keeps, op-exact}
-use Rattle.knownness.proofs.Machine.{more, arms-accepted, same-ending, prefix, step-sound, step-plain}
+use Rattle.knownness.proofs.Machine.{more, arms-accepted, same-ending, prefix, at-more, step-sound, step-plain}
 
 -- ---- cells that are alike place by place
 
@@ -47,18 +47,11 @@ refined-keeps A B h = (
   λ j. (h .1 j .0, h .1 j .1, λ i. refines-keeps (at (cellAt A j .bits) i) (at (cellAt B j .bits) i) (h .1 j .2 i)),
 )
 
-keeps-more-at : (cs ds : List Vector) (c d : Vector) → Cellwise Keeps cs ds → Pointwise Keeps c d
-    → (j : ℕ) → Pointwise Keeps (cellAt (cs ++ (c ∷ [])) j) (cellAt (ds ++ (d ∷ [])) j)
-keeps-more-at [] [] c d h p zero = p
-keeps-more-at [] [] c d h p (suc j) = (refl, refl, λ i. keeps-refl Zero)
-keeps-more-at [] (y ∷ ys) c d h p j = absurd (let e = h .0 in omega arith)
-keeps-more-at (x ∷ xs) [] c d h p j = absurd (let e = h .0 in omega arith)
-keeps-more-at (x ∷ xs) (y ∷ ys) c d h p zero = h .1 zero
-keeps-more-at (x ∷ xs) (y ∷ ys) c d h p (suc j) = keeps-more-at xs ys c d (let e = h .0 in omega arith, λ i. h .1 (suc i)) p j
-
 keeps-more : (cs ds : List Vector) (c d : Vector) → Cellwise Keeps cs ds → Pointwise Keeps c d → Cellwise Keeps (cs ++ (c ∷ [])) (ds ++ (d ∷ []))
-keeps-more cs ds c d h p =
-    (length-append ds (d ∷ []) ∙ ap (λ n. n + 1) (h .0) ∙ sym (length-append cs (c ∷ [])), keeps-more-at cs ds c d h p)
+keeps-more cs ds c d h p = (
+  length-append ds (d ∷ []) ∙ ap (λ n. n + 1) (h .0) ∙ sym (length-append cs (c ∷ [])),
+  at-more (Pointwise Keeps) (refl, refl, λ i. keeps-refl Zero) cs ds c d (h .0) (h .1) p,
+)
 
 -- ---- one step
 

@@ -4,10 +4,9 @@
 --     given-known   what a completion of the operands gives is known
 --     op-exact      a bit of the result is known as v exactly if all completions of the operands give v
 use mathlib.Core.Path.{_≡_, refl, sym, _∙_, subst, ap}
-use mathlib.Core.Bool.{Bool, true, false, cond}
+use mathlib.Core.Bool.{Bool, true, false}
 use mathlib.Core.Logic.{_↔_, ⊎-elim}
 use Prim.Native.Nat.{ℕ, _≤_, _<_}
-use native.Mathlib.Omega.{arith}
 use lib.Dec.{T}
 use lib.ListN.{length, List·getD-eq-default}
 use Rattle.bit.specs.declared.LogicBit.{LogicBit}
@@ -21,8 +20,7 @@ use Rattle.ops.specs.Ops.{kindOf, armsRefused, opHeader, opBits, opVector}
 use Rattle.ops.proofs.Results.{result-width}
 use Rattle.knownness.specs.Knownness.{keepsKnown, isExact, Known, Keeps, Completes, Pointwise, gives}
 use Rattle.knownness.proofs.Bits.{keeps-refl}
-use Rattle.knownness.proofs.Readings.{KnownBits}
-use Rattle.knownness.proofs.Forms.{Form, Mono, Exact}
+use Rattle.knownness.proofs.Forms.{Form, Exact}
 use Rattle.knownness.proofs.Ops.{armBit, formAt, Fitting, made-form, given-form, Proper, law, exact-keeps}
 
 -- ---- the operands

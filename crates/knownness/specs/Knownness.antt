@@ -20,7 +20,7 @@ use Rattle.ops.specs.declared.Step.{Step}
 use Rattle.ops.specs.declared.Kind.{Kind}
 use Rattle.ops.specs.declared.Kind.the-variants as kind
 use Rattle.ops.specs.Ops.{kindOf, opBits}
-use Rattle.machine.specs.Machine.{Room, Run, cellAt, machineRun}
+use Rattle.machine.specs.Machine.{Room, cellAt, machineRun}
 
 -- ---- the ops
 
