@@ -41,7 +41,7 @@ pub record Exact (C : Vector → Vector → Vector → Type 0) (F : Form) : Type
 
 -- ---- a rule of t, a and b
 
--- the headers and the numbers of bits of two operands, by which the rule and the readings may go
+-- the headers of two operands and how many bits the left one has, by which the rule and the readings may go
 pub record Frame : Type 0 where
   pub left : Header
   pub left-bits : ℕ

@@ -1,5 +1,6 @@
 -- The ops: each as a form at each place, and what holds of the form.
 --     formAt        place i of the result; of a merge, with the bit that chooses its arm
+--     Accepted      operands that are in order
 --     made-form, given-form     the result has that at place i, and a completion gives it
 --     Law, law      the form of an op keeps known bits if the op does, and is exact if the op is
 use mathlib.Core.Path.{_≡_, refl, _∙_, ap, ap₂, subst}
@@ -67,8 +68,9 @@ formAt kind.Insert pos i t a b c =
 
 -- ---- the result has the form at each place
 
--- the arms of an op are in order
-pub record Fitting (k : Kind) (b c : Vector) : Type 0 where
+-- operands that are in order: each has as many bits as its header says, and the arms are not refused
+pub record Accepted (k : Kind) (a b c : Vector) : Type 0 where
+  pub first : length (a .bits) ≡ a .header .width
   pub second : length (b .bits) ≡ b .header .width
   pub third : length (c .bits) ≡ c .header .width
   pub arms : kindRefused k (b .header) (c .header) ≡ false
@@ -85,11 +87,11 @@ no-fills false true q e = absurd (subst T e tt)
 no-fills false false true e = absurd (subst T e tt)
 no-fills false false false e = (tt, tt)
 
-select-form : (b c : Vector) → Fitting kind.Select b c → (t : Truth) (i : ℕ) → i < length (selected t b c)
+select-form : (a b c : Vector) → Accepted kind.Select a b c → (t : Truth) (i : ℕ) → i < length (selected t b c)
     → at (selected t b c) i ≡ selectBit (truthBit t) (at (b .bits) i) (at (c .bits) i)
-select-form b c f truth.True i l = refl
-select-form b c f truth.False i l = refl
-select-form b c f truth.Unknown i l =
+select-form a b c f truth.True i l = refl
+select-form a b c f truth.False i l = refl
+select-form a b c f truth.Unknown i l =
     let n : ℕ = larger (b .header) (c .header) in
     let m : i < n = subst (λ (n : ℕ). i < n) (length-tabulate n _) l in
     let p = no-fills (not (eqb (b .header .width) (c .header .width))) (b .header .«is_fill») (c .header .«is_fill») (f .arms) in
@@ -109,7 +111,7 @@ insert-form b pos n i x l = go (leb pos i) (ltb i (pos + n)) refl refl
     go false z e f = refl
 
 module _ (a b c : Vector) (pos i : ℕ) where
-  pub made-form : (k : Kind) → Fitting k b c → i < length (kindBits k a b c pos) → at (kindBits k a b c pos) i ≡ formAt k pos i X a b c
+  pub made-form : (k : Kind) → Accepted k a b c → i < length (kindBits k a b c pos) → at (kindBits k a b c pos) i ≡ formAt k pos i X a b c
   made-form (kind.Join j) f l =
       let n : ℕ = larger (a .header) (b .header) in
       getD-tabulate n _ i Zero (subst (λ (n : ℕ). i < n) (length-tabulate n _) l)
@@ -121,13 +123,13 @@ module _ (a b c : Vector) (pos i : ℕ) where
       one : (i : ℕ) → i < 1 → at (answerBit q a b ∷ []) i ≡ answerBit q a b
       one zero l = refl
       one (suc i) l = absurd (not-suc-le-zero (le-of-suc-le-suc l))
-  made-form kind.Select f l = select-form b c f (truthOf (a .bits)) i l
+  made-form kind.Select f l = select-form a b c f (truthOf (a .bits)) i l
   made-form kind.Insert f l =
       let n : ℕ = length (a .bits) in
       getD-tabulate n _ i Zero (subst (λ (n : ℕ). i < n) (length-tabulate n _) l)
       ∙ insert-form b pos (spliceCount (length (a .bits)) pos (b .header .width)) i (at (a .bits) i) (omega arith)
 
-  pub given-form : (k : Kind) → Fitting k b c → i < length (kindBits k a b c pos) → (second : Bool)
+  pub given-form : (k : Kind) → Accepted k a b c → i < length (kindBits k a b c pos) → (second : Bool)
       → cond (merges k) (armAt second a b i) (at (kindBits k a b c pos) i) ≡ formAt k pos i (armBit second) a b c
   given-form (kind.Join bitwise.And) f l second = made-form (kind.Join bitwise.And) f l
   given-form (kind.Join bitwise.Or) f l second = made-form (kind.Join bitwise.Or) f l
@@ -166,20 +168,20 @@ exact-pick : (z : Bool) → ExactRule (pickRule z)
 exact-pick true = exact-right
 exact-pick false = exact-left
 
+-- a rule of one reading of each of a and b
+by-readings : (op : Op) (g : Rule) → ExactRule g → (P Q : Vector → LogicBit) → Reading P → Reading Q → Law op (λ t a b c. g t (P a) (Q b))
+by-readings op g G P Q p q =
+    exactly op (λ t a b c. g t (P a) (Q b)) (of-two (Proper op) (λ s. g) (λ s. G) (λ s. P) (λ s. Q) (λ s. p) (λ s. q))
+
+-- a reading of a
+by-reading : (op : Op) (P : Vector → LogicBit) → Reading P → Law op (λ t a b c. P a)
+by-reading op P p = by-readings op (λ t a b. a) exact-left P P p p
+
 module _ (pos i : ℕ) where
   by-join : (op : Op) (j : Bitwise) → Law op (formAt (kind.Join j) pos i)
   by-join op j = exactly op (formAt (kind.Join j) pos i)
       (of-two (Proper op) (λ s. joinRule j) (λ s. exact-join j) (λ s a. operandAt (operator j) a (s .right) i) (λ s b. operandAt (operator j) b (s .left) i)
       (λ s. of-operand (operator j) (s .right) i) (λ s. of-operand (operator j) (s .left) i))
-
-  -- a rule of one reading of each of a and b
-  by-readings : (op : Op) (g : Rule) → ExactRule g → (P Q : Vector → LogicBit) → Reading P → Reading Q → Law op (λ t a b c. g t (P a) (Q b))
-  by-readings op g G P Q p q =
-      exactly op (λ t a b c. g t (P a) (Q b)) (of-two (Proper op) (λ s. g) (λ s. G) (λ s. P) (λ s. Q) (λ s. p) (λ s. q))
-
-  -- a reading of a
-  by-reading : (op : Op) (P : Vector → LogicBit) → Reading P → Law op (λ t a b c. P a)
-  by-reading op P p = by-readings op (λ t a b. a) exact-left P P p p
 
   by-select : Law Select (formAt kind.Select pos i)
   by-select = exactly Select (formAt kind.Select pos i)

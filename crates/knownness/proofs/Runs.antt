@@ -1,5 +1,6 @@
 -- What demand 3 claims of the runs of the plain machine.
 --     headers-again, sound-again, plain-again     cells that are alike place by place have the same headers, and are in order together
+--     kept      on cells that keep known bits a run keeps them
 --     alike     the runs on inputs and on inputs that refine them end alike, and bits that are known stay
 --     exact     each step that is run is known exactly
 use mathlib.Core.Path.{_≡_, refl, sym, _∙_, subst, ap, ap₂}
@@ -18,11 +19,12 @@ use Rattle.words.specs.Vector.{at}
 use Rattle.value.specs.declared.Header.{Header}
 use Rattle.value.specs.Checks.{Vector}
 use Rattle.ops.specs.declared.Step.{Step}
-use Rattle.ops.specs.Ops.{armsRefused}
+use Rattle.ops.specs.Ops.{kindOf, armsRefused}
 use Rattle.machine.specs.Machine.{Room, headersOf, noVector, cellAt, checkStep, stepCell, Run, onward, runFrom}
 use Rattle.knownness.specs.Knownness.{isExact, stepAt, AllKeep, Keeps, Refines, Pointwise, Cellwise, AllSound, NoFill, ExactStep, ExactRun, Alike}
 use Rattle.knownness.proofs.Bits.{refines-keeps, keeps-refl}
-use Rattle.knownness.proofs.Steps.{Accepted, width-again, op-keeps, op-exact}
+use Rattle.knownness.proofs.Ops.{Accepted}
+use Rattle.knownness.proofs.Steps.{width-again, op-keeps, op-exact}
 use Rattle.knownness.proofs.Machine.{more, arms-accepted, same-ending, prefix, at-more, step-sound, step-plain}
 
 -- ---- cells that are alike place by place
@@ -56,7 +58,7 @@ keeps-more cs ds c d h p = (
 -- ---- one step
 
 accepted : (cs : List Vector) (s : Step) → AllSound cs → armsRefused (s .op) (cellAt cs (s .b) .header) (cellAt cs (s .c) .header) ≡ false
-    → Accepted (s .op) (cellAt cs (s .a)) (cellAt cs (s .b)) (cellAt cs (s .c))
+    → Accepted (kindOf (s .op)) (cellAt cs (s .a)) (cellAt cs (s .b)) (cellAt cs (s .c))
 accepted cs s a e = record { first = a (s .a); second = a (s .b); third = a (s .c); arms = e }
 
 module _ (r : Room) where
@@ -68,7 +70,8 @@ module _ (r : Room) where
 
   -- ---- the run
 
-  kept : (ss : List Step) → AllKeep ss → (n : ℕ) (cs ds : List Vector) → AllSound cs → Cellwise Keeps cs ds
+  -- on any cells that keep known bits
+  pub kept : (ss : List Step) → AllKeep ss → (n : ℕ) (cs ds : List Vector) → AllSound cs → Cellwise Keeps cs ds
       → Cellwise Keeps (runFrom r cs n ss .cells) (runFrom r ds n ss .cells)
   unfolding runFrom
   kept [] l n cs ds a h = h

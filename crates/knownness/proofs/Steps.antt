@@ -1,5 +1,5 @@
 -- The result of an op on whole operands.
---     Accepted, accepted-again     operands that are in order, and stay so where headers and widths do
+--     width-again   a vector has as many bits as its header says, if one of the same header and width does
 --     op-keeps      a bit of the result that is known stays, if every bit of the operands that is known does
 --     given-known   what a completion of the operands gives is known
 --     op-exact      a bit of the result is known as v exactly if all completions of the operands give v
@@ -21,30 +21,21 @@ use Rattle.ops.proofs.Results.{result-width}
 use Rattle.knownness.specs.Knownness.{keepsKnown, isExact, Known, Keeps, Completes, Pointwise, gives}
 use Rattle.knownness.proofs.Bits.{keeps-refl}
 use Rattle.knownness.proofs.Forms.{Form, Exact}
-use Rattle.knownness.proofs.Ops.{armBit, formAt, Fitting, made-form, given-form, Proper, law, exact-keeps}
+use Rattle.knownness.proofs.Ops.{armBit, formAt, Accepted, made-form, given-form, Proper, law, exact-keeps}
 
 -- ---- the operands
-
-pub record Accepted (op : Op) (a b c : Vector) : Type 0 where
-  pub first : length (a .bits) ≡ a .header .width
-  pub second : length (b .bits) ≡ b .header .width
-  pub third : length (c .bits) ≡ c .header .width
-  pub arms : armsRefused op (b .header) (c .header) ≡ false
 
 pub width-again : (R : LogicBit → LogicBit → Type 0) (a b : Vector) → Pointwise R a b → length (a .bits) ≡ a .header .width
     → length (b .bits) ≡ b .header .width
 width-again R a b h e = h .1 ∙ e ∙ ap (λ x. x .width) (sym (h .0))
 
-module _ (op : Op) (pos : ℕ) (a b c : Vector) (o : Accepted op a b c) where
-  fitting : Fitting (kindOf op) b c
-  fitting = record { second = o .second; third = o .third; arms = o .arms }
+width : (op : Op) (pos : ℕ) (a b c : Vector) → Accepted (kindOf op) a b c
+    → length (opBits op a b c pos) ≡ opHeader op (a .header) (b .header) (c .header) .width
+width op pos a b c o = result-width a b c pos (o .first) (o .second) (o .third) op (o .arms)
 
-  width : length (opBits op a b c pos) ≡ opHeader op (a .header) (b .header) (c .header) .width
-  width = result-width a b c pos (o .first) (o .second) (o .third) op (o .arms)
-
-module _ (R : LogicBit → LogicBit → Type 0) (op : Op) (pos : ℕ) (a b c a′ b′ c′ : Vector) (o : Accepted op a b c)
+module _ (R : LogicBit → LogicBit → Type 0) (op : Op) (pos : ℕ) (a b c a′ b′ c′ : Vector) (o : Accepted (kindOf op) a b c)
     (ha : Pointwise R a a′) (hb : Pointwise R b b′) (hc : Pointwise R c c′) where
-  accepted-again : Accepted op a′ b′ c′
+  accepted-again : Accepted (kindOf op) a′ b′ c′
   accepted-again = record {
     first = width-again R a a′ ha (o .first);
     second = width-again R b b′ hb (o .second);
@@ -58,9 +49,16 @@ module _ (R : LogicBit → LogicBit → Type 0) (op : Op) (pos : ℕ) (a b c a�
   length-again : length (opBits op a′ b′ c′ pos) ≡ length (opBits op a b c pos)
   length-again = width op pos a′ b′ c′ accepted-again ∙ ap (λ x. x .width) header-again ∙ sym (width op pos a b c o)
 
+arm-known : (second : Bool) → Known (armBit second)
+arm-known true = tt
+arm-known false = tt
+
+completes-keeps : (a a′ : Vector) → Pointwise Completes a a′ → Pointwise Keeps a a′
+completes-keeps a a′ h = (h .0, h .1, λ i. h .2 i .1)
+
 -- ---- known bits are kept
 
-module _ (op : Op) (pos : ℕ) (a b c : Vector) (o : Accepted op a b c) where
+module _ (op : Op) (pos : ℕ) (a b c : Vector) (o : Accepted (kindOf op) a b c) where
   pub op-keeps : (a′ b′ c′ : Vector) → Pointwise Keeps a a′ → Pointwise Keeps b b′ → Pointwise Keeps c c′ → T (keepsKnown op)
       → Pointwise Keeps (opVector op a b c pos) (opVector op a′ b′ c′ pos)
   op-keeps a′ b′ c′ ha hb hc k = (header-again Keeps op pos a b c a′ b′ c′ o ha hb hc, same, kept)
@@ -68,13 +66,13 @@ module _ (op : Op) (pos : ℕ) (a b c : Vector) (o : Accepted op a b c) where
       same : length (opBits op a′ b′ c′ pos) ≡ length (opBits op a b c pos)
       same = length-again Keeps op pos a b c a′ b′ c′ o ha hb hc
 
-      again : Accepted op a′ b′ c′
+      again : Accepted (kindOf op) a′ b′ c′
       again = accepted-again Keeps op pos a b c a′ b′ c′ o ha hb hc
 
       inner : (i : ℕ) → i < length (opBits op a b c pos) → Keeps (at (opBits op a b c pos) i) (at (opBits op a′ b′ c′ pos) i)
       inner i l =
-          let e = made-form a b c pos i (kindOf op) (fitting op pos a b c o) l in
-          let e′ = made-form a′ b′ c′ pos i (kindOf op) (fitting op pos a′ b′ c′ again) (subst (λ (n : ℕ). i < n) (sym same) l) in
+          let e = made-form a b c pos i (kindOf op) o l in
+          let e′ = made-form a′ b′ c′ pos i (kindOf op) again (subst (λ (n : ℕ). i < n) (sym same) l) in
           subst (λ (x : LogicBit). Keeps x (at (opBits op a′ b′ c′ pos) i)) (sym e)
           (subst (Keeps (formAt (kindOf op) pos i X a b c)) (sym e′) (law pos i op k .mono X X a a′ b b′ c c′ (keeps-refl X) ha hb hc))
 
@@ -95,15 +93,8 @@ module _ (op : Op) (pos : ℕ) (a b c : Vector) (o : Accepted op a b c) where
     given : (a′ b′ c′ : Vector) → Pointwise Completes a a′ → Pointwise Completes b b′ → Pointwise Completes c c′ → (second : Bool)
         → gives op pos second a′ b′ c′ i ≡ form (armBit second) a′ b′ c′
     given a′ b′ c′ ha hb hc second =
-        given-form a′ b′ c′ pos i (kindOf op) (fitting op pos a′ b′ c′ (accepted-again Completes op pos a b c a′ b′ c′ o ha hb hc))
+        given-form a′ b′ c′ pos i (kindOf op) (accepted-again Completes op pos a b c a′ b′ c′ o ha hb hc)
         (subst (λ (n : ℕ). i < n) (sym (length-again Completes op pos a b c a′ b′ c′ o ha hb hc)) l) second
-
-    arm-known : (second : Bool) → Known (armBit second)
-    arm-known true = tt
-    arm-known false = tt
-
-    completes-keeps : (a a′ : Vector) → Pointwise Completes a a′ → Pointwise Keeps a a′
-    completes-keeps a a′ h = (h .0, h .1, λ i. h .2 i .1)
 
     exact : Exact (Proper op) form
     exact = law pos i op (exact-keeps op k) .exact k
@@ -120,7 +111,7 @@ module _ (op : Op) (pos : ℕ) (a b c : Vector) (o : Accepted op a b c) where
           → gives op pos second a′ b′ c′ i ≡ v
 
       made : at (opBits op a b c pos) i ≡ form X a b c
-      made = made-form a b c pos i (kindOf op) (fitting op pos a b c o) l
+      made = made-form a b c pos i (kindOf op) o l
 
       all-given : at (opBits op a b c pos) i ≡ v → AllGiven
       all-given e a′ b′ c′ ha hb hc second =

@@ -1,5 +1,6 @@
 -- The reductions and truth beside each other.
 --     and-fold, or-fold, xor-fold     a reduction is its single-bit rule, folded over the bits from the rule's neutral bit
+--     same-eq       bits of the same code are the same
 --     truth-or      truth as a bit is the or-reduction
 --     holds-and     whether a known 0 stands in a vector, denied, is the and-reduction
 --     by-truths     two truths or refusals, combined
