@@ -23,10 +23,11 @@ use Rattle.planes.specs.Entries.{maxWidth}
 use Rattle.value.specs.declared.Header.{Header}
 use Rattle.value.specs.Checks.{Vector, vector, checkVector}
 use Rattle.value.proofs.Checks.{Sound, vector-accepted}
+use Rattle.machine.specs.Machine.{wordsTaken}
 use Rattle.store.specs.declared.Cell.{Cell}
-use Rattle.store.specs.Store.{State, state, noCell, emptyStore, filled, cellWords, cellPlanes, cellVector, wordsOf, nextWord, cellAgrees, cellsAgree, agrees, checkStore, putPlanes, putCell, appended, checkInput, addInput, Holds}
+use Rattle.store.specs.Store.{State, state, noCell, emptyStore, filled, cellWords, cellPlanes, cellVector, cellHeaders, storeHeaders, nextWord, cellAgrees, cellsAgree, agrees, checkStore, putPlanes, putCell, appended, checkInput, addInput, Holds}
 use Rattle.store.proofs.Answers.{vector-accepts}
-use Rattle.store.proofs.Spans.{Fits, fits-cell, cells-snoc, cell-there, cells-same, Agreed, state-agrees, agrees-state, next-within}
+use Rattle.store.proofs.Spans.{Fits, fits-cell, cells-snoc, cell-there, cells-same, Agreed, headers-count, state-agrees, agrees-state, next-within}
 use Rattle.store.proofs.Tail.{put-take, put-span, put-length}
 
 -- ---- reading
@@ -161,9 +162,9 @@ module _ (s : State) (cs : List Vector) (r : Vector) (holds : Holds s cs) (t : S
       (sym (put-take at (unknownPlane (r .bits)) (old .unknown) unknown-fits))
       (filled (s .store)) 0 (omega arith) (g .cells)
 
-  fits : cellAgrees new (0 + wordsOf (filled (s .store))) cell ≡ true
+  fits : cellAgrees new (0 + wordsTaken (cellHeaders (filled (s .store)))) cell ≡ true
   fits =
-      fits-cell new (0 + wordsOf (filled (s .store))) cell
+      fits-cell new (0 + wordsTaken (cellHeaders (filled (s .store)))) cell
       (record { begins = omega arith; within = omega (arith, room, value-length); sound = ap (checkVector (r .header)) words ∙ vector-accepts (r .header) (planesOf (r .bits)) sound })
 
   pub append-holds : Holds (appended r s) (cs ++ (r ∷ []))
@@ -192,12 +193,12 @@ pub record Accepted (s : State) (h : Header) (p : Planes) : Type 0 where
   pub sound : Sound h p
   pub room : nextWord (s .store) + wordCount (h .width) ≤ length (s .arenas .value)
 
-pub input-accepted : (s : State) (h : Header) (p : Planes) → checkInput s h p ≡ given tt → Accepted s h p
+pub input-accepted : (s : State) (h : Header) (p : Planes) → length (s .store .cells) ≡ 320 → checkInput s h p ≡ given tt → Accepted s h p
 unfolding checkStore
-input-accepted s h p e =
-    go (agrees s) refl (leb 320 (s .store .count)) refl (checkVector h p) refl (ltb (length (s .arenas .value) - nextWord (s .store)) (wordCount (h .width))) refl e
+input-accepted s h p n e =
+    go (agrees s) refl (leb 320 (length (storeHeaders (s .store)))) refl (checkVector h p) refl (ltb (length (s .arenas .value) - nextWord (s .store)) (wordCount (h .width))) refl e
   where
-    go : (a : Bool) → agrees s ≡ a → (b : Bool) → leb 320 (s .store .count) ≡ b → (c : Answer Unit) → checkVector h p ≡ c
+    go : (a : Bool) → agrees s ≡ a → (b : Bool) → leb 320 (length (storeHeaders (s .store))) ≡ b → (c : Answer Unit) → checkVector h p ≡ c
         → (d : Bool) → ltb (length (s .arenas .value) - nextWord (s .store)) (wordCount (h .width)) ≡ d
         → _≡_ {A = Answer Unit} (after (cond a (given tt) (refused 14)) (after (cond b (refused 12) (given tt)) (after c (cond d (refused 13) (given tt))))) (given tt)
         → Accepted s h p
@@ -208,7 +209,7 @@ input-accepted s h p e =
     go true ea false eb (given t) ec false ed e =
         record {
           agreed = ea;
-          few = leb-false _ _ eb;
+          few = omega (arith, headers-count (s .store) n (state-agrees s ea .few), leb-false 320 (length (storeHeaders (s .store))) eb);
           sound = vector-accepted h p ec;
           room = omega (arith, next-within s ea, ltb-false (length (s .arenas .value) - nextWord (s .store)) (wordCount (h .width)) ed);
         }
@@ -216,6 +217,6 @@ input-accepted s h p e =
 pub input-holds : (s : State) (cs : List Vector) (h : Header) (p : Planes) → Holds s cs → checkInput s h p ≡ given tt
     → Holds (addInput s h p .left) (cs ++ (vector h p ∷ []))
 input-holds s cs h p holds e =
-    let a = input-accepted s h p e in
+    let a = input-accepted s h p (holds .places) e in
     subst (λ (x : Answer Unit). Holds (orRefuse x s (outcome (given (s .store .count)) (appended (vector h p) s)) .left) (cs ++ (vector h p ∷ []))) (sym e)
     (append-holds s cs (vector h p) holds (sound-storable h p (a .sound)) (a .few) (a .room))

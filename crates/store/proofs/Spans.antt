@@ -4,6 +4,7 @@
 --     cells-snoc                  one cell more
 --     cells-same                  words behind the cells do not matter
 --     cell-there                  each of the cells fits
+--     headers-count               there are as many headers as filled cells
 --     state-agrees, agrees-state, store-accepted     what is asked of a store and its arenas, as facts
 use mathlib.Core.Path.{_≡_, refl, sym, ap, ap₂, _∙_}
 use mathlib.Core.Bool.{Bool, true, false, _&&_, cond}
@@ -13,14 +14,16 @@ use native.Mathlib.Nat.{le-of-suc-le-suc, not-suc-le-zero}
 use native.Mathlib.Omega.{arith}
 use borrow.Author.Tests.{eqb-true, leb-true, eq-eqb, le-leb}
 use lib.Dec.{eqb, leb}
-use lib.ListN.{length, getD, take, drop}
+use lib.ListN.{length, getD, take, drop, length-map}
 use lib.Seq.{take-add, take-take, drop-at, length-take-le}
 use Rattle.refusal.specs.Outcome.{Answer}
 use Rattle.refusal.specs.Outcome.Answer.{given, refused}
 use Rattle.words.specs.Planes.{Planes, lent}
 use Rattle.value.specs.Checks.{Vector, vector, checkVector}
+use Rattle.machine.specs.Machine.{wordsTaken}
 use Rattle.store.specs.declared.Cell.{Cell}
-use Rattle.store.specs.Store.{State, filled, cellWords, span, cellPlanes, cellVector, wordsOf, nextWord, accepts, cellAgrees, cellsAgree, agrees, checkStore}
+use Rattle.store.specs.declared.Store.{Store}
+use Rattle.store.specs.Store.{State, filled, cellWords, span, cellPlanes, cellVector, cellHeaders, storeHeaders, nextWord, accepts, cellAgrees, cellsAgree, agrees, checkStore}
 use Rattle.store.proofs.Answers.{both}
 
 -- ---- one cell
@@ -52,24 +55,24 @@ cells-split : (a : Planes) (k : ℕ) (c : Cell) (cs : List Cell) → cellsAgree 
 unfolding cellsAgree
 cells-split a k c cs h = let p = both (cellAgrees a k c) (cellsAgree a (k + cellWords c) cs) h in (cell-fits a k c (p .0), p .1)
 
-pub cells-within : (a : Planes) (cs : List Cell) (k : ℕ) → k ≤ length (a .value) → cellsAgree a k cs ≡ true → k + wordsOf cs ≤ length (a .value)
-unfolding wordsOf
+pub cells-within : (a : Planes) (cs : List Cell) (k : ℕ) → k ≤ length (a .value) → cellsAgree a k cs ≡ true → k + wordsTaken (cellHeaders cs) ≤ length (a .value)
+unfolding wordsTaken
 cells-within a [] k l h = omega arith
 cells-within a (c ∷ cs) k l h =
     let p = cells-split a k c cs h in
     let q = cells-within a cs (k + cellWords c) (omega (arith, p .0 .begins, p .0 .within)) (p .1) in
     omega arith
 
-pub cells-snoc : (a : Planes) (cs : List Cell) (c : Cell) (k : ℕ) → cellsAgree a k cs ≡ true → cellAgrees a (k + wordsOf cs) c ≡ true
+pub cells-snoc : (a : Planes) (cs : List Cell) (c : Cell) (k : ℕ) → cellsAgree a k cs ≡ true → cellAgrees a (k + wordsTaken (cellHeaders cs)) c ≡ true
     → cellsAgree a k (cs ++ (c ∷ [])) ≡ true
-unfolding cellsAgree wordsOf
+unfolding cellsAgree wordsTaken
 cells-snoc a [] c k h g =
     let z : k ≡ k + 0 = omega arith in
     let x : cellAgrees a k c ≡ true = ap (λ (n : ℕ). cellAgrees a n c) z ∙ g in
     simp x
 cells-snoc a (b ∷ cs) c k h g =
     let p = cells-split a k b cs h in
-    let z : k + cellWords b + wordsOf cs ≡ k + (cellWords b + wordsOf cs) = omega arith in
+    let z : k + cellWords b + wordsTaken (cellHeaders cs) ≡ k + (cellWords b + wordsTaken (cellHeaders cs)) = omega arith in
     simp (fits-cell a k b (p .0)) (cells-snoc a cs c (k + cellWords b) (p .1) (ap (λ (n : ℕ). cellAgrees a n c) z ∙ g))
 
 pub cell-there : (a : Planes) (cs : List Cell) (k i : ℕ) (d : Cell) → cellsAgree a k cs ≡ true → i < length cs → Fits a (getD cs i d .start) (getD cs i d)
@@ -102,9 +105,9 @@ module _ (a b : Planes) (n : ℕ) (long : n ≤ length (a .value)) (lv : length 
       (span-same (a .value) (b .value) n long (omega arith) ev c h)
       (span-same (a .unknown) (b .unknown) n lu lw eu c h)
 
-  pub cells-same : (cs : List Cell) (k : ℕ) → k + wordsOf cs ≤ n → cellsAgree a k cs ≡ true
+  pub cells-same : (cs : List Cell) (k : ℕ) → k + wordsTaken (cellHeaders cs) ≤ n → cellsAgree a k cs ≡ true
       → (cellsAgree b k cs ≡ true) × (map (cellVector b) cs ≡ map (cellVector a) cs)
-  unfolding cellsAgree wordsOf
+  unfolding cellsAgree wordsTaken
   cells-same [] k h g = (refl, refl)
   cells-same (c ∷ cs) k h g =
       let p = cells-split a k c cs g in
@@ -136,6 +139,10 @@ state-agrees s h =
 pub agrees-state : (s : State) → Agreed s → agrees s ≡ true
 unfolding agrees
 agrees-state s h = simp (le-leb _ _ (h .few), eq-eqb _ _ (h .level), h .cells)
+
+-- there are as many headers as filled cells
+pub headers-count : (s : Store) → length (s .cells) ≡ 320 → s .count ≤ 320 → length (storeHeaders s) ≡ s .count
+headers-count s n h = length-map (filled s) (λ (c : Cell). c .header) ∙ length-take-le (s .count) (s .cells) (omega arith)
 
 -- the next cell begins within the arenas
 pub next-within : (s : State) → agrees s ≡ true → nextWord (s .store) ≤ length (s .arenas .value)

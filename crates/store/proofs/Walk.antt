@@ -11,12 +11,13 @@ use lib.Seq.{drop-cons, getD-take, length-take-le}
 use Rattle.refusal.specs.Outcome.{Answer, after}
 use Rattle.refusal.specs.Outcome.Answer.{given, refused}
 use Rattle.words.specs.Planes.{Planes}
+use Rattle.machine.specs.Machine.{wordsTaken}
 use Rattle.store.specs.declared.Cell.{Cell}
 use Rattle.store.specs.declared.Store.{Store}
-use Rattle.store.specs.Store.{State, filled, cellWords, wordsOf, nextWord, cellAgrees, cellsAgree, agrees, checkStore}
+use Rattle.store.specs.Store.{State, filled, cellWords, cellHeaders, nextWord, cellAgrees, cellsAgree, agrees, checkStore}
 
 pub record Left (a : Planes) (s : Store) (i k : ℕ) : Type 0 where
-  pub words : k + wordsOf (drop i (filled s)) ≡ nextWord s
+  pub words : k + wordsTaken (cellHeaders (drop i (filled s))) ≡ nextWord s
   pub cells : cellsAgree a 0 (filled s) ≡ cellsAgree a k (drop i (filled s))
 
 pub left-start : (a : Planes) (s : Store) → Left a s 0 0
@@ -42,9 +43,9 @@ module _ (a : Planes) (s : Store) (i k : ℕ) (whole : s .count ≤ length (s .c
         ∙ ap (λ (x : Bool). x && cellsAgree a (k + cellWords cell) (drop (i + 1) (filled s))) e
 
     pub left-more : cellAgrees a k cell ≡ true → (m : ℕ) → m ≡ k + cellWords cell → Left a s (i + 1) m
-    unfolding wordsOf
+    unfolding wordsTaken
     left-more e m q =
-        let w : wordsOf (drop i (filled s)) ≡ cellWords cell + wordsOf (drop (i + 1) (filled s)) = ap wordsOf next in
+        let w : wordsTaken (cellHeaders (drop i (filled s))) ≡ cellWords cell + wordsTaken (cellHeaders (drop (i + 1) (filled s))) = ap (λ (l : List Cell). wordsTaken (cellHeaders l)) next in
         record {
           words = omega (arith, w, left .words);
           cells = turn true e ∙ ap (λ (n : ℕ). cellsAgree a n (drop (i + 1) (filled s))) (sym q);
@@ -54,11 +55,11 @@ module _ (a : Planes) (s : Store) (i k : ℕ) (whole : s .count ≤ length (s .c
     left-wrong e = turn false e
 
   pub left-done : s .count ≤ i → (k ≡ nextWord s) × (cellsAgree a 0 (filled s) ≡ true)
-  unfolding wordsOf cellsAgree
+  unfolding wordsTaken cellsAgree
   left-done h =
       let n : length (filled s) ≡ s .count = length-take-le (s .count) (s .cells) whole in
       let e : drop i (filled s) ≡ [] = drop-of-length-le (filled s) {i = i} (omega arith) in
-      let w : wordsOf (drop i (filled s)) ≡ 0 = ap wordsOf e in
+      let w : wordsTaken (cellHeaders (drop i (filled s))) ≡ 0 = ap (λ (l : List Cell). wordsTaken (cellHeaders l)) e in
       (omega (arith, w, left .words), left .cells ∙ ap (λ (l : List Cell). cellsAgree a k l) e)
 
 -- ---- how the check ends, where n is the next word

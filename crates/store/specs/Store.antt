@@ -3,16 +3,18 @@
 use mathlib.Core.Path.{_≡_}
 use mathlib.Core.Bool.{Bool, true, false, _&&_, cond}
 use mathlib.Core.List.{List, [], _∷_, _++_, map}
-use Prim.Native.Nat.{ℕ, _+_, _-_}
+use Prim.Native.Nat.{ℕ, _+_, min}
 use lib.Dec.{eqb, leb, ltb}
 use lib.ListN.{length, take, drop, set, replicate}
 use Rattle.refusal.specs.Refusals.{refusalNumber}
 use Rattle.refusal.specs.Outcome.{Answer, Outcome, outcome, after, orRefuse}
 use Rattle.refusal.specs.Outcome.Answer.{given, refused}
 use Rattle.words.specs.Planes.{wordCount, Planes, lent, planesOf}
+use Rattle.planes.specs.Entries.{maxWidth}
 use Rattle.value.specs.declared.Header.{Header}
 use Rattle.value.specs.Checks.{Vector, vector, checkVector}
 use Rattle.value.specs.Constructors.{plain}
+use Rattle.machine.specs.Machine.{Room, wordsTaken, checkCount, checkRoom}
 use Rattle.store.specs.declared.Cell.{Cell}
 use Rattle.store.specs.declared.Store.{Store}
 use Rattle.store.specs.declared.CellAnswer.{CellAnswer}
@@ -64,14 +66,19 @@ cellPlanes a c = lent (span c (a .value)) (span c (a .unknown))
 abbrev pub cellVector : Planes → Cell → Vector
 cellVector a c = vector (c .header) (cellPlanes a c)
 
--- the words that cells take
-unfoldable pub wordsOf : List Cell → ℕ
-wordsOf [] = 0
-wordsOf (c ∷ cs) = cellWords c + wordsOf cs
+abbrev pub cellHeaders : List Cell → List Header
+cellHeaders cs = map (λ (c : Cell). c .header) cs
+
+abbrev pub storeHeaders : Store → List Header
+storeHeaders s = cellHeaders (filled s)
 
 -- the first word behind the last filled cell
 abbrev pub nextWord : Store → ℕ
-nextWord s = wordsOf (filled s)
+nextWord s = wordsTaken (storeHeaders s)
+
+-- the cells' headers and bits, in order
+abbrev pub cellsOf : State → List Vector
+cellsOf s = map (cellVector (s .arenas)) (filled (s .store))
 
 -- ---- 14, store and arenas disagree
 
@@ -99,16 +106,6 @@ agrees s =
 unfoldable pub checkStore : State → Answer Unit
 checkStore s = cond (agrees s) (given tt) (refused 14)
 
--- ---- 12 and 13
-
--- 320 cells already
-abbrev pub checkCount : State → Answer Unit
-checkCount s = cond (leb 320 (s .store .count)) (refused 12) (given tt)
-
--- an arena (14 asks that both are of one length) has fewer words behind the last cell than a cell of width w takes
-abbrev pub checkRoom : ℕ → State → Answer Unit
-checkRoom w s = cond (ltb (length (s .arenas .value) - nextWord (s .store)) (wordCount w)) (refused 13) (given tt)
-
 -- ---- a cell put behind the last
 
 -- the words of p stand from word k on; all other words stay
@@ -127,13 +124,28 @@ appended r s = state (putCell (r .header) (s .store)) (putPlanes (nextWord (s .s
 
 -- ---- `add_input`
 
--- 14, 12, then 1 to 4 for the input, then 13
+-- the words of the arenas (14 asks that both are of one length), and those of the shorter scratch plane
+abbrev pub roomOf : (arenas scratch : Planes) → Room
+roomOf arenas scratch = record { arena = length (arenas .value); scratch = min (length (scratch .value)) (length (scratch .unknown)) }
+
+-- an input takes no scratch
+abbrev pub noScratch : Planes
+noScratch = lent [] []
+
+-- 14, 12, then 1 to 4 for the input, then 13; 12 and 13 go by the headers of the filled cells
 abbrev pub checkInput : State → Header → Planes → Answer Unit
-checkInput s h p = after (checkStore s) (after (checkCount s) (after (checkVector h p) (checkRoom (h .width) s)))
+checkInput s h p =
+    after (checkStore s)
+    (after (checkCount (storeHeaders (s .store)))
+    (after (checkVector h p) (checkRoom (roomOf (s .arenas) noScratch) (storeHeaders (s .store)) (h .width))))
 
 -- the input is the next cell, and the answer is that cell's number
 abbrev pub addInput : State → Header → Planes → Outcome ℕ State
 addInput s h p = orRefuse (checkInput s h p) s (outcome (given (s .store .count)) (appended (vector h p) s))
+
+-- what 1 to 4 say of an input whose planes are those of as many bits as its header says: 1 and 4, by the header alone
+abbrev pub checkHeader : Header → Answer Unit
+checkHeader h = cond (ltb maxWidth (h .width)) (refused 1) (cond (h .«is_fill» && eqb (h .width) 0) (refused 4) (given tt))
 
 -- ---- what a state holds
 
@@ -141,4 +153,4 @@ addInput s h p = orRefuse (checkInput s h p) s (outcome (given (s .store .count)
 pub record Holds (s : State) (cs : List Vector) : Type 0 where
   pub places : length (s .store .cells) ≡ 320
   pub agreed : agrees s ≡ true
-  pub cells : map (cellVector (s .arenas)) (filled (s .store)) ≡ cs
+  pub cells : cellsOf s ≡ cs

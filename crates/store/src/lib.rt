@@ -40,6 +40,13 @@ pub enum PlaceAnswer {
     Refused(Refusal),
 }
 
+// The cells that a step names, in operand order; where its op does not use an operand, the first cell again.
+pub struct Operands {
+    pub a: Cell,
+    pub b: Cell,
+    pub c: Cell,
+}
+
 impl Store {
     // An empty store.
     pub fn new() -> Store

@@ -1,6 +1,7 @@
 -- `store::Store::add_input`: refused as checked, else put behind the last cell.
 use mathlib.Core.Path.{_≡_, sym, ap, _∙_}
 use native.Mathlib.Omega.{arith}
+use lib.ListN.{length-map}
 use Rattle.refusal.specs.Refusals.{refusalNumber}
 use Rattle.refusal.specs.Outcome.{outcome}
 use Rattle.refusal.specs.Outcome.Answer.{given}
@@ -33,7 +34,7 @@ module _ (t : tie.After-known-told2) where
       (sym (k .place-input .ensures) ∙ ap placeAnswer (t .before .at .given .1))
 
   accepted : Accepted (all k) (st k .args .h) (input k)
-  accepted = input-accepted (all k) (st k .args .h) (input k) (found .0)
+  accepted = input-accepted (all k) (st k .args .h) (input k) (simp length-map at (st k .good .0 .1 .1 .0 .1 .0 .1)) (found .0)
 
 place-input-requires : tie.Need-place-input-requires
 place-input-requires c κs = search needs

@@ -1,0 +1,68 @@
+-- Document 01, "Cell store", "Step list" and "Numbers for what is not done": what adding a step does to the store, its arenas and the two lent
+-- scratch planes.
+use mathlib.Core.Bool.{cond}
+use mathlib.Core.List.{List}
+use Prim.Native.Nat.{ℕ}
+use lib.Dec.{ltb}
+use lib.ListN.{getD}
+use Rattle.refusal.specs.Outcome.{Answer, Outcome, outcome, after, orRefuse}
+use Rattle.refusal.specs.Outcome.Answer.{given}
+use Rattle.words.specs.Planes.{Planes, planesOf}
+use Rattle.value.specs.Checks.{Vector}
+use Rattle.ops.specs.declared.Step.{Step}
+use Rattle.ops.specs.Ops.{operands}
+use Rattle.machine.specs.Machine.{checkStep, stepCell}
+use Rattle.store.specs.declared.Cell.{Cell}
+use Rattle.store.specs.declared.Store.{Store}
+use Rattle.store.specs.declared.Operands.{Operands}
+use Rattle.store.specs.Store.{State, noCell, filled, storeHeaders, cellsOf, checkStore, roomOf, putPlanes, appended}
+
+-- all that a call can change: the store, its arenas, and the scratch planes
+pub record Memory : Type 0 where
+  pub state : State
+  pub scratch : Planes
+
+abbrev pub memory : State → Planes → Memory
+memory s p = record { state = s; scratch = p }
+
+-- 14, then 12, 11 in operand order, 7 and 13, which go by the headers of the filled cells
+abbrev pub checkMemory : Memory → Step → Answer Unit
+checkMemory m step =
+    after (checkStore (m .state)) (checkStep (roomOf (m .state .arenas) (m .scratch)) (storeHeaders (m .state .store)) step)
+
+-- what document 01 gives for the step and the cells it names
+abbrev pub stepVector : State → Step → Vector
+stepVector s step = stepCell (cellsOf s) step
+
+-- each scratch plane begins with the result and is unchanged beyond it
+abbrev pub worked : Vector → Planes → Planes
+worked r scratch = putPlanes 0 (planesOf (r .bits)) scratch
+
+-- the result is the next cell
+abbrev pub stepped : Vector → Memory → Memory
+stepped r m = memory (appended r (m .state)) (worked r (m .scratch))
+
+-- `add_step`: the answer is the new cell's number; a refusal leaves all
+abbrev pub addStep : Memory → Step → Outcome ℕ Memory
+addStep m step = orRefuse (checkMemory m step) m (outcome (given (m .state .store .count)) (stepped (stepVector (m .state) step) m))
+
+-- ---- the cells that a step names
+
+-- an operand that the op does not use is ignored: the number of a stands for it
+abbrev pub named : Step → Step
+named s = record {
+  op = s .op;
+  a = s .a;
+  b = cond (ltb (operands (s .op)) 2) (s .a) (s .b);
+  c = cond (ltb (operands (s .op)) 3) (s .a) (s .c);
+}
+
+abbrev pub cellNumber : Store → ℕ → Cell
+cellNumber s i = getD (filled s) i noCell
+
+abbrev pub namedCells : Store → Step → Operands
+namedCells s step = record {
+  a = cellNumber s (named step .a);
+  b = cellNumber s (named step .b);
+  c = cellNumber s (named step .c);
+}
