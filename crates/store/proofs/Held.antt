@@ -1,7 +1,8 @@
 -- What a state holds, and how it lasts.
---     cell-read       a filled cell lies within the arenas, and its planes are those of a vector
+--     fits-read, cell-read     a filled cell lies within the arenas, and its planes are those of a vector
 --     held-count, cell-held     there are as many cells as vectors held, and cell i has vector i
 --     empty-holds     an empty store holds no cells
+--     storable-sound, storable-vector     a vector that a cell can hold: its planes are in order and hold it
 --     append-holds    a vector put behind the last cell is held behind the others
 --     input-holds     an accepted input is held behind the others
 use mathlib.Core.Path.{_≡_, refl, sym, ap, ap₂, _∙_, subst}
@@ -27,7 +28,7 @@ use Rattle.machine.specs.Machine.{wordsTaken}
 use Rattle.store.specs.declared.Cell.{Cell}
 use Rattle.store.specs.Store.{State, state, noCell, emptyStore, filled, cellWords, cellPlanes, cellVector, cellHeaders, storeHeaders, nextWord, cellAgrees, cellsAgree, agrees, checkStore, putPlanes, putCell, appended, checkInput, addInput, Holds}
 use Rattle.store.proofs.Answers.{vector-accepts}
-use Rattle.store.proofs.Spans.{Fits, fits-cell, cells-snoc, cell-there, cells-same, Agreed, headers-count, state-agrees, agrees-state, next-within}
+use Rattle.store.proofs.Spans.{Fits, fits-cell, cells-snoc, filled-fits, cells-same, Agreed, headers-count, state-agrees, agrees-state, next-within}
 use Rattle.store.proofs.Tail.{put-take, put-span, put-length}
 
 -- ---- reading
@@ -37,25 +38,20 @@ pub record Readable (a : Planes) (c : Cell) : Type 0 where
   pub unknown-within : c .start + cellWords c ≤ length (a .unknown)
   pub sound : Sound (c .header) (cellPlanes a c)
 
+pub fits-read : (a : Planes) (k : ℕ) (c : Cell) → length (a .value) ≡ length (a .unknown) → Fits a k c → Readable a c
+fits-read a k c e f = record {
+  value-within = f .within;
+  unknown-within = omega (arith, f .within, e);
+  sound = vector-accepted (c .header) (cellPlanes a c) (f .sound);
+}
+
 pub cell-read : (s : State) (i : ℕ) (d : Cell) → length (s .store .cells) ≡ 320 → agrees s ≡ true → i < s .store .count
     → Readable (s .arenas) (getD (s .store .cells) i d)
-cell-read s i d n h l = subst (Readable (s .arenas)) (getD-take (s .store .count) (s .store .cells) i d l) there
-  where
-    g : Agreed s
-    g = state-agrees s h
-
-    long : length (filled (s .store)) ≡ s .store .count
-    long = length-take-le (s .store .count) (s .store .cells) (omega (arith, n, g .few))
-
-    f : Fits (s .arenas) (getD (filled (s .store)) i d .start) (getD (filled (s .store)) i d)
-    f = cell-there (s .arenas) (filled (s .store)) 0 i d (g .cells) (omega (arith, long))
-
-    there : Readable (s .arenas) (getD (filled (s .store)) i d)
-    there = record {
-      value-within = f .within;
-      unknown-within = omega (arith, f .within, g .level);
-      sound = vector-accepted (getD (filled (s .store)) i d .header) (cellPlanes (s .arenas) (getD (filled (s .store)) i d)) (f .sound);
-    }
+cell-read s i d n h l =
+    let g = state-agrees s h in
+    let f = filled-fits s i d n h l in
+    subst (Readable (s .arenas)) (getD-take (s .store .count) (s .store .cells) i d l)
+    (fits-read (s .arenas) (getD (filled (s .store)) i d .start) (getD (filled (s .store)) i d) (g .level) f)
 
 pub held-count : (s : State) (cs : List Vector) → Holds s cs → length cs ≡ s .store .count
 held-count s cs h =
@@ -89,7 +85,7 @@ pub record Storable (r : Vector) : Type 0 where
   pub narrow : r .header .width ≤ maxWidth
   pub fill : r .header .«is_fill» ≡ true → r .header .width ≡ 0 → ⊥
 
-storable-sound : (r : Vector) → Storable r → Sound (r .header) (planesOf (r .bits))
+pub storable-sound : (r : Vector) → Storable r → Sound (r .header) (planesOf (r .bits))
 storable-sound r t = record {
   planes = record {
     narrow = t .narrow;
@@ -98,6 +94,12 @@ storable-sound r t = record {
   };
   fill = t .fill;
 }
+
+-- its planes hold it
+pub storable-vector : (r : Vector) → Storable r → vector (r .header) (planesOf (r .bits)) ≡ r
+storable-vector r t =
+    ap (λ (n : ℕ). record { header = r .header; bits = fromPlanes n (valuePlane (r .bits)) (unknownPlane (r .bits)) }) (sym (t .width))
+    ∙ ap (λ (bs : List LogicBit). record { header = r .header; bits = bs }) (sym (bits-again (r .bits)))
 
 map-snoc : {A B : Type 0} (f : A → B) (xs : List A) (x : A) → map f (xs ++ (x ∷ [])) ≡ map f xs ++ (f x ∷ [])
 map-snoc f [] x = refl
@@ -145,10 +147,7 @@ module _ (s : State) (cs : List Vector) (r : Vector) (holds : Holds s cs) (t : S
 
   -- and its vector
   is-vector : cellVector new cell ≡ r
-  is-vector =
-      ap (vector (r .header)) words
-      ∙ ap (λ (n : ℕ). record { header = r .header; bits = fromPlanes n (valuePlane (r .bits)) (unknownPlane (r .bits)) }) (sym (t .width))
-      ∙ ap (λ (bs : List LogicBit). record { header = r .header; bits = bs }) (sym (bits-again (r .bits)))
+  is-vector = ap (vector (r .header)) words ∙ storable-vector r t
 
   filled-more : filled (putCell (r .header) (s .store)) ≡ filled (s .store) ++ (cell ∷ [])
   filled-more =

@@ -3,3 +3,5 @@ pub mod Spans
 pub mod Walk
 pub mod Tail
 pub mod Held
+pub mod Named
+pub mod Steps

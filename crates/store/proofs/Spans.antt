@@ -3,8 +3,8 @@
 --     cells-within, next-within   the cells' words lie within the arenas
 --     cells-snoc                  one cell more
 --     cells-same                  words behind the cells do not matter
---     cell-there                  each of the cells fits
 --     headers-count               there are as many headers as filled cells
+--     filled-fits                 each filled cell fits
 --     state-agrees, agrees-state, store-accepted     what is asked of a store and its arenas, as facts
 use mathlib.Core.Path.{_≡_, refl, sym, ap, ap₂, _∙_}
 use mathlib.Core.Bool.{Bool, true, false, _&&_, cond}
@@ -75,7 +75,7 @@ cells-snoc a (b ∷ cs) c k h g =
     let z : k + cellWords b + wordsTaken (cellHeaders cs) ≡ k + (cellWords b + wordsTaken (cellHeaders cs)) = omega arith in
     simp (fits-cell a k b (p .0)) (cells-snoc a cs c (k + cellWords b) (p .1) (ap (λ (n : ℕ). cellAgrees a n c) z ∙ g))
 
-pub cell-there : (a : Planes) (cs : List Cell) (k i : ℕ) (d : Cell) → cellsAgree a k cs ≡ true → i < length cs → Fits a (getD cs i d .start) (getD cs i d)
+cell-there : (a : Planes) (cs : List Cell) (k i : ℕ) (d : Cell) → cellsAgree a k cs ≡ true → i < length cs → Fits a (getD cs i d .start) (getD cs i d)
 cell-there a [] k i d h l = absurd (not-suc-le-zero l)
 cell-there a (c ∷ cs) k zero d h l =
     let f = cells-split a k c cs h .0 in record { begins = refl; within = f .within; sound = f .sound }
@@ -141,8 +141,17 @@ unfolding agrees
 agrees-state s h = simp (le-leb _ _ (h .few), eq-eqb _ _ (h .level), h .cells)
 
 -- there are as many headers as filled cells
+filled-count : (s : Store) → length (s .cells) ≡ 320 → s .count ≤ 320 → length (filled s) ≡ s .count
+filled-count s n h = length-take-le (s .count) (s .cells) (omega arith)
+
 pub headers-count : (s : Store) → length (s .cells) ≡ 320 → s .count ≤ 320 → length (storeHeaders s) ≡ s .count
-headers-count s n h = length-map (filled s) (λ (c : Cell). c .header) ∙ length-take-le (s .count) (s .cells) (omega arith)
+headers-count s n h = length-map (filled s) (λ (c : Cell). c .header) ∙ filled-count s n h
+
+pub filled-fits : (s : State) (i : ℕ) (d : Cell) → length (s .store .cells) ≡ 320 → agrees s ≡ true → i < s .store .count
+    → Fits (s .arenas) (getD (filled (s .store)) i d .start) (getD (filled (s .store)) i d)
+filled-fits s i d n h l =
+    let g = state-agrees s h in
+    cell-there (s .arenas) (filled (s .store)) 0 i d (g .cells) (omega (arith, filled-count (s .store) n (g .few)))
 
 -- the next cell begins within the arenas
 pub next-within : (s : State) → agrees s ≡ true → nextWord (s .store) ≤ length (s .arenas .value)

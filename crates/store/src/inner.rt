@@ -17,6 +17,8 @@ ghost use Rattle.words.specs.Planes.{wordCount, lent, Plane};
 ghost use Rattle.value.specs.Checks.{vector};
 ghost use Rattle.store.specs.Store.{state, cellWords, span, nextWord, cellAgrees, checkStore, checkInput, placeAnswer, appended};
 
+pub mod step;
+
 // A cell's words in an arena.
 pub fn cell_words(c: Cell, arena: &[u64]) -> &[u64]
     requires { ⌜ c .start + cellWords c ≤ length (now arena) ⌝ }

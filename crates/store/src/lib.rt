@@ -1,5 +1,6 @@
 // The cell store: at most 320 vectors, numbered from 0, whose words lie one behind the other in two lent arenas. The store goes in by value and
 // comes back by value, inside the answer.
+use ops::Step;
 use refusal::Refusal;
 use value::Header;
 use value::plain_header;
@@ -7,6 +8,7 @@ ghost use mathlib.Core.Path.{_≡_};
 ghost use Rattle.refusal.specs.Outcome.{outcome};
 ghost use Rattle.words.specs.Planes.{lent};
 ghost use Rattle.store.specs.Store.{state, emptyStore, cellAnswer, addInput};
+ghost use Rattle.store.specs.Step.{memory, addStep};
 
 pub mod inner;
 
@@ -81,6 +83,56 @@ impl Store {
             PlaceAnswer::At(at) => {
                 let n = self.count;
                 let s = inner::append(self, at, h, value, unknown, arena_value, arena_unknown);
+                Stored {
+                    answer: CellAnswer::Added(n),
+                    store: s,
+                }
+            }
+        }
+    }
+
+    // Adds the result of a step on the cells that it names, worked out in the scratch planes. Refused by 14, 12, 11, 7, then 13.
+    pub fn add_step(
+        self,
+        step: Step,
+        arena_value: &mut [u64],
+        arena_unknown: &mut [u64],
+        scratch_value: &mut [u64],
+        scratch_unknown: &mut [u64],
+    ) -> Stored
+        ensures { λ r. ⌜ outcome (cellAnswer (r .answer)) (memory (state (r .store) (lent (now («arena_value» .exit)) (now («arena_unknown» .exit)))) (lent (now («scratch_value» .exit)) (now («scratch_unknown» .exit)))) ≡ addStep (memory (state self (lent (now («arena_value» .entry)) (now («arena_unknown» .entry)))) (lent (now («scratch_value» .entry)) (now («scratch_unknown» .entry)))) step ⌝ }
+    {
+        match inner::step::place_step(
+            self,
+            step,
+            arena_value,
+            arena_unknown,
+            scratch_value,
+            scratch_unknown,
+        ) {
+            PlaceAnswer::Refused(r) => Stored {
+                answer: CellAnswer::Refused(r),
+                store: self,
+            },
+            PlaceAnswer::At(at) => {
+                let n = self.count;
+                let h = inner::step::work_step(
+                    self,
+                    step,
+                    arena_value,
+                    arena_unknown,
+                    scratch_value,
+                    scratch_unknown,
+                );
+                let s = inner::step::append_front(
+                    self,
+                    at,
+                    h,
+                    scratch_value,
+                    scratch_unknown,
+                    arena_value,
+                    arena_unknown,
+                );
                 Stored {
                     answer: CellAnswer::Added(n),
                     store: s,

@@ -1,0 +1,168 @@
+-- A step that is not refused.
+--     step-admitted   what its check has found
+--     named-fits      the cells that it names fit
+--     step-storable   a cell can hold its result
+--     worked-front    the scratch planes then begin with its result
+--     front-back      what scratch planes hold after their first words were lent
+use mathlib.Core.Path.{_≡_, refl, sym, ap, ap₂, _∙_, subst}
+use mathlib.Core.Bool.{Bool, true, false, cond}
+use mathlib.Core.List.{List, _++_}
+use Prim.Native.Nat.{ℕ, _+_, _-_, _≤_, _<_, min}
+use native.Mathlib.Omega.{arith}
+use borrow.Author.Tests.{leb-false, ltb-false}
+use lib.Dec.{leb, ltb}
+use lib.ListN.{length, take, drop}
+use Rattle.refusal.specs.Outcome.{Answer, after}
+use Rattle.refusal.specs.Outcome.Answer.{given, refused}
+use Rattle.words.specs.Planes.{wordCount, valuePlane, unknownPlane, Plane, Planes, lent}
+use Rattle.words.proofs.Planes.{length-tabulate}
+use Rattle.value.specs.declared.Header.{Header}
+use Rattle.value.specs.Checks.{Vector, vector}
+use Rattle.value.proofs.Checks.{Sound}
+use Rattle.ops.specs.declared.Step.{Step}
+use Rattle.ops.specs.Ops.{armsRefused, opVector}
+use Rattle.ops.proofs.Results.{result-width}
+use Rattle.ops.proofs.Accepted.{result-sound}
+use Rattle.machine.specs.Machine.{headerAt, names, stepHeader, wordsTaken, checkStep}
+use Rattle.store.specs.declared.Cell.{Cell}
+use Rattle.store.specs.Store.{State, noCell, cellPlanes, cellVector, storeHeaders, nextWord, agrees, checkStore, put, putPlanes}
+use Rattle.store.specs.Step.{Memory, memory, checkMemory, stepVector, worked, cellNumber, namedCells}
+use Rattle.store.proofs.Spans.{Fits, headers-count, filled-fits, state-agrees, next-within}
+use Rattle.store.proofs.Held.{Readable, fits-read, Storable, storable-sound, storable-vector}
+use Rattle.store.proofs.Tail.{put-span, put-length}
+use Rattle.store.proofs.Named.{Within, names-within, arms-named, header-named, vector-named}
+
+-- the header of the result, as the machine has it
+header-vector : (s : State) (step : Step) → stepHeader (storeHeaders (s .store)) step ≡ stepVector s step .header
+header-vector s step = header-named (s .store) step ∙ sym (ap (λ (v : Vector). v .header) (vector-named s step))
+
+pub record Admitted (m : Memory) (step : Step) : Type 0 where
+  pub agreed : agrees (m .state) ≡ true
+  pub few : m .state .store .count < 320
+  pub all-named : names (m .state .store .count) step ≡ true
+  pub arms : armsRefused (step .op) (namedCells (m .state .store) step .b .header) (namedCells (m .state .store) step .c .header) ≡ false
+  pub room : nextWord (m .state .store) + wordCount (stepVector (m .state) step .header .width) ≤ length (m .state .arenas .value)
+  pub value-room : wordCount (stepVector (m .state) step .header .width) ≤ length (m .scratch .value)
+  pub unknown-room : wordCount (stepVector (m .state) step .header .width) ≤ length (m .scratch .unknown)
+
+module _ (m : Memory) (step : Step) (places : length (m .state .store .cells) ≡ 320) where
+  abbrev s : State
+  s = m .state
+
+  abbrev hs : List Header
+  hs = storeHeaders (s .store)
+
+  abbrev words : ℕ
+  words = wordCount (stepHeader hs step .width)
+
+  abbrev scratch : ℕ
+  scratch = min (length (m .scratch .value)) (length (m .scratch .unknown))
+
+  abbrev refusedArms : Bool
+  refusedArms = armsRefused (step .op) (headerAt hs (step .b)) (headerAt hs (step .c))
+
+  pub step-admitted : checkMemory m step ≡ given tt → Admitted m step
+  unfolding checkStore checkStep
+  step-admitted e =
+      go (agrees s) refl (leb 320 (length hs)) refl (names (length hs) step) refl refusedArms refl
+      (ltb (length (s .arenas .value) - wordsTaken hs) words) refl (ltb scratch words) refl e
+    where
+      go : (a : Bool) → agrees s ≡ a → (b : Bool) → leb 320 (length hs) ≡ b → (n : Bool) → names (length hs) step ≡ n → (x : Bool) → refusedArms ≡ x
+          → (y : Bool) → ltb (length (s .arenas .value) - wordsTaken hs) words ≡ y → (z : Bool) → ltb scratch words ≡ z
+          → _≡_ {A = Answer Unit} (after (cond a (given tt) (refused 14)) (after (cond b (refused 12) (given tt)) (after (cond n (given tt) (refused 11))
+          (after (cond x (refused 7) (given tt)) (after (cond y (refused 13) (given tt)) (cond z (refused 13) (given tt))))))) (given tt)
+          → Admitted m step
+      go false _ b _ n _ x _ y _ z _ e = let q : _≡_ {A = ℕ} 0 1 = cc in absurd (omega arith)
+      go true _ true _ n _ x _ y _ z _ e = let q : _≡_ {A = ℕ} 0 1 = cc in absurd (omega arith)
+      go true _ false _ false _ x _ y _ z _ e = let q : _≡_ {A = ℕ} 0 1 = cc in absurd (omega arith)
+      go true _ false _ true _ true _ y _ z _ e = let q : _≡_ {A = ℕ} 0 1 = cc in absurd (omega arith)
+      go true _ false _ true _ false _ true _ z _ e = let q : _≡_ {A = ℕ} 0 1 = cc in absurd (omega arith)
+      go true _ false _ true _ false _ false _ true _ e = let q : _≡_ {A = ℕ} 0 1 = cc in absurd (omega arith)
+      go true ea false eb true en false ex false ey false ez e =
+          let counted : length hs ≡ s .store .count = headers-count (s .store) places (state-agrees s ea .few) in
+          let same : words ≡ wordCount (stepVector s step .header .width) = ap (λ (h : Header). wordCount (h .width)) (header-vector s step) in
+          let y : words ≤ length (s .arenas .value) - wordsTaken hs = ltb-false (length (s .arenas .value) - wordsTaken hs) words ey in
+          let z : words ≤ scratch = ltb-false scratch words ez in
+          record {
+            agreed = ea;
+            few = omega (arith, counted, leb-false 320 (length hs) eb);
+            all-named = ap (λ (n : ℕ). names n step) (sym counted) ∙ en;
+            arms = sym (arms-named (s .store) step) ∙ ex;
+            room = omega (arith, next-within s ea, y, same);
+            value-room = omega (arith, z, same);
+            unknown-room = omega (arith, z, same);
+          }
+
+-- ---- the cells that it names, and its result
+
+module _ (m : Memory) (step : Step) (places : length (m .state .store .cells) ≡ 320) (h : Admitted m step) where
+  abbrev a : Planes
+  a = m .state .arenas
+
+  within : Within (m .state .store .count) step
+  within = names-within (m .state .store .count) step (h .all-named)
+
+  cell-fits-at : (i : ℕ) → i < m .state .store .count → Fits a (cellNumber (m .state .store) i .start) (cellNumber (m .state .store) i)
+  cell-fits-at i l = filled-fits (m .state) i noCell places (h .agreed) l
+
+  pub record Fitting : Type 0 where
+    pub a-fits : Fits a (namedCells (m .state .store) step .a .start) (namedCells (m .state .store) step .a)
+    pub b-fits : Fits a (namedCells (m .state .store) step .b .start) (namedCells (m .state .store) step .b)
+    pub c-fits : Fits a (namedCells (m .state .store) step .c .start) (namedCells (m .state .store) step .c)
+
+  pub named-fits : Fitting
+  named-fits = record { a-fits = cell-fits-at _ (within .a); b-fits = cell-fits-at _ (within .b); c-fits = cell-fits-at _ (within .c) }
+
+  sound-at : (c : Cell) → Fits a (c .start) c → Sound (c .header) (cellPlanes a c)
+  sound-at c f = fits-read a (c .start) c (state-agrees (m .state) (h .agreed) .level) f .sound
+
+  pub step-storable : Storable (stepVector (m .state) step)
+  step-storable =
+      let o = namedCells (m .state .store) step in
+      let sound =
+      result-sound (o .a .header) (o .b .header) (o .c .header) (cellPlanes a (o .a)) (cellPlanes a (o .b)) (cellPlanes a (o .c)) (step .c)
+      (sound-at (o .a) (named-fits .a-fits)) (sound-at (o .b) (named-fits .b-fits)) (sound-at (o .c) (named-fits .c-fits)) (step .op) (h .arms) in
+      subst Storable (sym (vector-named (m .state) step)) (record {
+        width = result-width (cellVector a (o .a)) (cellVector a (o .b)) (cellVector a (o .c)) (step .c) (length-tabulate _ _) (length-tabulate _ _) (length-tabulate _ _) (step .op) (h .arms);
+        narrow = sound .planes .narrow;
+        fill = sound .fill;
+      })
+
+-- ---- scratch
+
+-- the first n words of both planes were lent and hold the words of p
+pub front-back : (n : ℕ) (left p scratch : Planes) → left ≡ p → n ≡ length (p .value) → n ≡ length (p .unknown)
+    → lent (left .value ++ drop n (scratch .value)) (left .unknown ++ drop n (scratch .unknown)) ≡ putPlanes 0 p scratch
+front-back n left p scratch e v u =
+    let x : n ≡ 0 + length (p .value) = omega arith in
+    let y : n ≡ 0 + length (p .unknown) = omega arith in
+    ap (λ (q : Planes). lent (q .value ++ drop n (scratch .value)) (q .unknown ++ drop n (scratch .unknown))) e
+    ∙ ap₂ (λ (i j : ℕ). lent (p .value ++ drop i (scratch .value)) (p .unknown ++ drop j (scratch .unknown))) x y
+
+-- planes whose first words are those of the vector r, whose header is h
+pub record Front (h : Header) (r : Vector) (p : Planes) : Type 0 where
+  pub value-long : wordCount (h .width) ≤ length (p .value)
+  pub unknown-long : wordCount (h .width) ≤ length (p .unknown)
+  pub value-plane : Plane (h .width) (take (wordCount (h .width)) (p .value))
+  pub unknown-plane : Plane (h .width) (take (wordCount (h .width)) (p .unknown))
+  pub holds : vector h (lent (take (wordCount (h .width)) (p .value)) (take (wordCount (h .width)) (p .unknown))) ≡ r
+
+-- the front of a plane is what was put there
+front-is : (n : ℕ) (p plane : List ℕ) → length p ≡ n → n ≤ length plane → (take n (put 0 p plane) ≡ p) × (length (put 0 p plane) ≡ length plane)
+front-is n p plane e h =
+    let l : 0 + length p ≤ length plane = omega arith in
+    (ap (λ (k : ℕ). take k (put 0 p plane)) (sym e) ∙ put-span 0 p plane l, put-length 0 p plane l)
+
+pub worked-front : (r : Vector) (scratch : Planes) → Storable r → wordCount (r .header .width) ≤ length (scratch .value) → wordCount (r .header .width) ≤ length (scratch .unknown)
+    → Front (r .header) r (worked r scratch)
+worked-front r scratch t hv hu =
+    let s = storable-sound r t .planes in
+    let v = front-is (wordCount (r .header .width)) (valuePlane (r .bits)) (scratch .value) (s .value-plane .count) hv in
+    let u = front-is (wordCount (r .header .width)) (unknownPlane (r .bits)) (scratch .unknown) (s .unknown-plane .count) hu in
+    record {
+      value-long = omega (arith, v .1, hv);
+      unknown-long = omega (arith, u .1, hu);
+      value-plane = subst (Plane (r .header .width)) (sym (v .0)) (s .value-plane);
+      unknown-plane = subst (Plane (r .header .width)) (sym (u .0)) (s .unknown-plane);
+      holds = ap₂ (λ (x y : List ℕ). vector (r .header) (lent x y)) (v .0) (u .0) ∙ storable-vector r t;
+    }
