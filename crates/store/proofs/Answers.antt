@@ -1,21 +1,23 @@
 -- What an answer behind a check tells of the check, and when a check accepts.
 --     answer-given, answer-refused     a result: the check accepted; a refusal: the check's own
 --     both                             two tests that hold together
+--     planes-header                    the check of a vector whose planes are in order goes by the header alone
 --     vector-accepts                   a vector in order is accepted
-use mathlib.Core.Path.{_≡_, refl, ap}
-use mathlib.Core.Bool.{Bool, true, false, _&&_}
+use mathlib.Core.Path.{_≡_, refl, ap, _∙_}
+use mathlib.Core.Bool.{Bool, true, false, _&&_, cond}
 use Prim.Native.Nat.{ℕ}
 use native.Mathlib.Omega.{arith}
 use borrow.Author.Tests.{le-ltb, eq-eqb, ne-eqb}
-use lib.Dec.{T, eqb}
+use lib.Dec.{T, eqb, ltb}
 use Rattle.refusal.specs.Outcome.{Answer, after}
 use Rattle.refusal.specs.Outcome.Answer.{given, refused}
-use Rattle.words.specs.Planes.{Planes, clearAbove}
+use Rattle.words.specs.Planes.{Planes, Plane, clearAbove}
 use Rattle.words.proofs.Top.{clear-all}
 use Rattle.planes.specs.Entries.{maxWidth, checkLengths, checkPlanes}
 use Rattle.value.specs.declared.Header.{Header}
 use Rattle.value.specs.Checks.{checkVector}
 use Rattle.value.proofs.Checks.{Sound}
+use Rattle.store.specs.Store.{checkHeader}
 
 pub both : (a b : Bool) → a && b ≡ true → (a ≡ true) × (b ≡ true)
 both true b h = (refl, h)
@@ -37,14 +39,21 @@ no-fill : (f : Bool) (w : ℕ) → (f ≡ true → w ≡ 0 → ⊥) → f && eqb
 no-fill true w h = ne-eqb w 0 (h refl)
 no-fill false w h = refl
 
-pub vector-accepts : (h : Header) (p : Planes) → Sound h p → checkVector h p ≡ given tt
+after-width : {A : Type 0} (b : Bool) (x : Answer A) → after (after (cond b (refused 1) (given tt)) (given tt)) x ≡ cond b (refused 1) x
+after-width true x = refl
+after-width false x = refl
+
+pub planes-header : (h : Header) (p : Planes) → Plane (h .width) (p .value) → Plane (h .width) (p .unknown) → checkVector h p ≡ checkHeader h
 unfolding checkVector checkPlanes checkLengths
-vector-accepts h p s =
+planes-header h p v u =
     simp (
-      le-ltb maxWidth (h .width) (s .planes .narrow),
-      eq-eqb _ _ (s .planes .value-plane .count),
-      eq-eqb _ _ (s .planes .unknown-plane .count),
-      is-true (clearAbove (h .width) (p .value)) (clear-all (h .width) (p .value) (s .planes .value-plane .clear)),
-      is-true (clearAbove (h .width) (p .unknown)) (clear-all (h .width) (p .unknown) (s .planes .unknown-plane .clear)),
-      no-fill (h .«is_fill») (h .width) (s .fill),
-    )
+      eq-eqb _ _ (v .count),
+      eq-eqb _ _ (u .count),
+      is-true (clearAbove (h .width) (p .value)) (clear-all (h .width) (p .value) (v .clear)),
+      is-true (clearAbove (h .width) (p .unknown)) (clear-all (h .width) (p .unknown) (u .clear)),
+    ) (after-width (ltb maxWidth (h .width)) (cond (h .«is_fill» && eqb (h .width) 0) (refused 4) (given tt)))
+
+pub vector-accepts : (h : Header) (p : Planes) → Sound h p → checkVector h p ≡ given tt
+vector-accepts h p s =
+    planes-header h p (s .planes .value-plane) (s .planes .unknown-plane)
+    ∙ simp (le-ltb maxWidth (h .width) (s .planes .narrow), no-fill (h .«is_fill») (h .width) (s .fill))

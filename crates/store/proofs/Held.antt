@@ -1,34 +1,32 @@
 -- What a state holds, and how it lasts.
 --     fits-read, cell-read     a filled cell lies within the arenas, and its planes are those of a vector
 --     held-count, cell-held     there are as many cells as vectors held, and cell i has vector i
+--     holds-headers   the filled cells have the headers of the vectors held
 --     empty-holds     an empty store holds no cells
 --     storable-sound, storable-vector     a vector that a cell can hold: its planes are in order and hold it
 --     append-holds    a vector put behind the last cell is held behind the others
---     input-holds     an accepted input is held behind the others
 use mathlib.Core.Path.{_≡_, refl, sym, ap, ap₂, _∙_, subst}
-use mathlib.Core.Bool.{Bool, true, false, cond}
-use mathlib.Core.List.{List, [], _∷_, _++_, map}
-use Prim.Native.Nat.{ℕ, _+_, _-_, _≤_, _<_}
+use mathlib.Core.Bool.{Bool, true, false}
+use mathlib.Core.List.{List, [], _∷_, _++_, map, map-map}
+use Prim.Native.Nat.{ℕ, _+_, _≤_, _<_}
 use native.Mathlib.Omega.{arith}
 use native.Mathlib.Numerals.{add-one}
-use borrow.Author.Tests.{leb-false, ltb-false}
-use lib.Dec.{leb, ltb}
 use lib.ListN.{length, getD, take, drop, set, length-map, length-set, length-replicate, List·getD-map}
 use lib.Seq.{getD-take, length-take-le, take-suc-set}
-use Rattle.refusal.specs.Outcome.{Answer, outcome, after, orRefuse}
-use Rattle.refusal.specs.Outcome.Answer.{given, refused}
+use Rattle.refusal.specs.Outcome.{Answer}
+use Rattle.refusal.specs.Outcome.Answer.{given}
 use Rattle.bit.specs.declared.LogicBit.{LogicBit}
 use Rattle.words.specs.Planes.{wordCount, fromPlanes, valuePlane, unknownPlane, Plane, Planes, lent, planesOf}
-use Rattle.words.proofs.Planes.{length-tabulate, bits-again, value-plane, unknown-plane}
+use Rattle.words.proofs.Planes.{bits-again, value-plane, unknown-plane}
 use Rattle.planes.specs.Entries.{maxWidth}
-use Rattle.value.specs.declared.Header.{Header}
 use Rattle.value.specs.Checks.{Vector, vector, checkVector}
 use Rattle.value.proofs.Checks.{Sound, vector-accepted}
-use Rattle.machine.specs.Machine.{wordsTaken}
+use Rattle.machine.specs.Machine.{headersOf, wordsTaken}
 use Rattle.store.specs.declared.Cell.{Cell}
-use Rattle.store.specs.Store.{State, state, noCell, emptyStore, filled, cellWords, cellPlanes, cellVector, cellHeaders, storeHeaders, nextWord, cellAgrees, cellsAgree, agrees, checkStore, putPlanes, putCell, appended, checkInput, addInput, Holds}
+use Rattle.store.specs.Store.{State, state, noCell, emptyStore, filled, cellWords, cellPlanes, cellVector, cellHeaders, storeHeaders, nextWord, cellAgrees, cellsAgree, agrees, putPlanes, putCell, appended, roomOf, Holds}
+use Rattle.store.specs.Step.{Memory}
 use Rattle.store.proofs.Answers.{vector-accepts}
-use Rattle.store.proofs.Spans.{Fits, fits-cell, cells-snoc, filled-fits, cells-same, Agreed, headers-count, state-agrees, agrees-state, next-within}
+use Rattle.store.proofs.Spans.{Fits, fits-cell, cells-snoc, filled-fits, cells-same, Agreed, state-agrees, agrees-state}
 use Rattle.store.proofs.Tail.{put-take, put-span, put-length}
 
 -- ---- reading
@@ -66,6 +64,10 @@ cell-held s cs i d h l =
     ap (cellVector (s .arenas)) (sym (getD-take (s .store .count) (s .store .cells) i d (omega arith)))
     ∙ sym (List·getD-map (cellVector (s .arenas)) (filled (s .store)) i d)
     ∙ ap (λ (l : List Vector). getD l i (cellVector (s .arenas) d)) (h .cells)
+
+pub holds-headers : (s : State) (cs : List Vector) → Holds s cs → storeHeaders (s .store) ≡ headersOf cs
+holds-headers s cs h =
+    sym (map-map (λ (v : Vector). v .header) (cellVector (s .arenas)) (filled (s .store))) ∙ ap headersOf (h .cells)
 
 -- ---- the empty store
 
@@ -180,42 +182,9 @@ module _ (s : State) (cs : List Vector) (r : Vector) (holds : Holds s cs) (t : S
         ∙ ap₂ (λ (vs : List Vector) (v : Vector). vs ++ (v ∷ [])) (others .1 ∙ holds .cells) is-vector;
   }
 
--- ---- an accepted input
-
--- what a vector in order holds can be held by a cell
-sound-storable : (h : Header) (p : Planes) → Sound h p → Storable (vector h p)
-sound-storable h p s = record { width = length-tabulate (h .width) _; narrow = s .planes .narrow; fill = s .fill }
-
-pub record Accepted (s : State) (h : Header) (p : Planes) : Type 0 where
-  pub agreed : agrees s ≡ true
-  pub few : s .store .count < 320
-  pub sound : Sound h p
-  pub room : nextWord (s .store) + wordCount (h .width) ≤ length (s .arenas .value)
-
-pub input-accepted : (s : State) (h : Header) (p : Planes) → length (s .store .cells) ≡ 320 → checkInput s h p ≡ given tt → Accepted s h p
-unfolding checkStore
-input-accepted s h p n e =
-    go (agrees s) refl (leb 320 (length (storeHeaders (s .store)))) refl (checkVector h p) refl (ltb (length (s .arenas .value) - nextWord (s .store)) (wordCount (h .width))) refl e
-  where
-    go : (a : Bool) → agrees s ≡ a → (b : Bool) → leb 320 (length (storeHeaders (s .store))) ≡ b → (c : Answer Unit) → checkVector h p ≡ c
-        → (d : Bool) → ltb (length (s .arenas .value) - nextWord (s .store)) (wordCount (h .width)) ≡ d
-        → _≡_ {A = Answer Unit} (after (cond a (given tt) (refused 14)) (after (cond b (refused 12) (given tt)) (after c (cond d (refused 13) (given tt))))) (given tt)
-        → Accepted s h p
-    go false _ b _ c _ d _ e = let z : _≡_ {A = ℕ} 0 1 = cc in absurd (omega arith)
-    go true _ true _ c _ d _ e = let z : _≡_ {A = ℕ} 0 1 = cc in absurd (omega arith)
-    go true _ false _ (refused n) _ d _ e = let z : _≡_ {A = ℕ} 0 1 = cc in absurd (omega arith)
-    go true _ false _ (given t) _ true _ e = let z : _≡_ {A = ℕ} 0 1 = cc in absurd (omega arith)
-    go true ea false eb (given t) ec false ed e =
-        record {
-          agreed = ea;
-          few = omega (arith, headers-count (s .store) n (state-agrees s ea .few), leb-false 320 (length (storeHeaders (s .store))) eb);
-          sound = vector-accepted h p ec;
-          room = omega (arith, next-within s ea, ltb-false (length (s .arenas .value) - nextWord (s .store)) (wordCount (h .width)) ed);
-        }
-
-pub input-holds : (s : State) (cs : List Vector) (h : Header) (p : Planes) → Holds s cs → checkInput s h p ≡ given tt
-    → Holds (addInput s h p .left) (cs ++ (vector h p ∷ []))
-input-holds s cs h p holds e =
-    let a = input-accepted s h p (holds .places) e in
-    subst (λ (x : Answer Unit). Holds (orRefuse x s (outcome (given (s .store .count)) (appended (vector h p) s)) .left) (cs ++ (vector h p ∷ []))) (sym e)
-    (append-holds s cs (vector h p) holds (sound-storable h p (a .sound)) (a .few) (a .room))
+-- what a call has done that added the vector v to a store of the cells cs, where m became n: the answer is the new cell's number, the vector is held
+-- behind the others, and there is as much room as before
+pub record Added (answer : Answer ℕ) (m n : Memory) (cs : List Vector) (v : Vector) : Type 0 where
+  pub answered : answer ≡ given (length cs)
+  pub holds : Holds (n .state) (cs ++ (v ∷ []))
+  pub room : roomOf (n .state .arenas) (n .scratch) ≡ roomOf (m .state .arenas) (m .scratch)

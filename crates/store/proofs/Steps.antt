@@ -3,6 +3,8 @@
 --     named-fits      the cells that it names fit
 --     step-storable   a cell can hold its result
 --     worked-front    the scratch planes then begin with its result
+--     step-check      where a state holds cells, the check goes by headers alone
+--     step-holds      its result is held behind the others
 --     front-back      what scratch planes hold after their first words were lent
 use mathlib.Core.Path.{_≡_, refl, sym, ap, ap₂, _∙_, subst}
 use mathlib.Core.Bool.{Bool, true, false, cond}
@@ -12,10 +14,11 @@ use native.Mathlib.Omega.{arith}
 use borrow.Author.Tests.{leb-false, ltb-false}
 use lib.Dec.{leb, ltb}
 use lib.ListN.{length, take, drop}
-use Rattle.refusal.specs.Outcome.{Answer, after}
+use Rattle.refusal.specs.Outcome.{Answer, outcome, after, orRefuse}
 use Rattle.refusal.specs.Outcome.Answer.{given, refused}
-use Rattle.words.specs.Planes.{wordCount, valuePlane, unknownPlane, Plane, Planes, lent}
+use Rattle.words.specs.Planes.{wordCount, valuePlane, unknownPlane, Plane, Planes, lent, planesOf}
 use Rattle.words.proofs.Planes.{length-tabulate}
+use Rattle.planes.proofs.Checks.{Checked}
 use Rattle.value.specs.declared.Header.{Header}
 use Rattle.value.specs.Checks.{Vector, vector}
 use Rattle.value.proofs.Checks.{Sound}
@@ -23,12 +26,12 @@ use Rattle.ops.specs.declared.Step.{Step}
 use Rattle.ops.specs.Ops.{armsRefused, opVector}
 use Rattle.ops.proofs.Results.{result-width}
 use Rattle.ops.proofs.Accepted.{result-sound}
-use Rattle.machine.specs.Machine.{headerAt, names, stepHeader, wordsTaken, checkStep}
+use Rattle.machine.specs.Machine.{headersOf, headerAt, names, stepHeader, wordsTaken, checkStep, stepCell}
 use Rattle.store.specs.declared.Cell.{Cell}
-use Rattle.store.specs.Store.{State, noCell, cellPlanes, cellVector, storeHeaders, nextWord, agrees, checkStore, put, putPlanes}
-use Rattle.store.specs.Step.{Memory, memory, checkMemory, stepVector, worked, cellNumber, namedCells}
+use Rattle.store.specs.Store.{State, noCell, cellPlanes, cellVector, storeHeaders, nextWord, agrees, checkStore, put, putPlanes, appended, roomOf, Holds}
+use Rattle.store.specs.Step.{Memory, memory, checkMemory, stepVector, worked, stepped, addStep, cellNumber, namedCells}
 use Rattle.store.proofs.Spans.{Fits, headers-count, filled-fits, state-agrees, next-within}
-use Rattle.store.proofs.Held.{Readable, fits-read, Storable, storable-sound, storable-vector}
+use Rattle.store.proofs.Held.{Readable, fits-read, held-count, holds-headers, Storable, storable-sound, storable-vector, append-holds, value-length, Added}
 use Rattle.store.proofs.Tail.{put-span, put-length}
 use Rattle.store.proofs.Named.{Within, names-within, arms-named, header-named, vector-named}
 
@@ -153,16 +156,53 @@ front-is n p plane e h =
     let l : 0 + length p ≤ length plane = omega arith in
     (ap (λ (k : ℕ). take k (put 0 p plane)) (sym e) ∙ put-span 0 p plane l, put-length 0 p plane l)
 
-pub worked-front : (r : Vector) (scratch : Planes) → Storable r → wordCount (r .header .width) ≤ length (scratch .value) → wordCount (r .header .width) ≤ length (scratch .unknown)
-    → Front (r .header) r (worked r scratch)
-worked-front r scratch t hv hu =
-    let s = storable-sound r t .planes in
-    let v = front-is (wordCount (r .header .width)) (valuePlane (r .bits)) (scratch .value) (s .value-plane .count) hv in
-    let u = front-is (wordCount (r .header .width)) (unknownPlane (r .bits)) (scratch .unknown) (s .unknown-plane .count) hu in
-    record {
-      value-long = omega (arith, v .1, hv);
-      unknown-long = omega (arith, u .1, hu);
-      value-plane = subst (Plane (r .header .width)) (sym (v .0)) (s .value-plane);
-      unknown-plane = subst (Plane (r .header .width)) (sym (u .0)) (s .unknown-plane);
-      holds = ap₂ (λ (x y : List ℕ). vector (r .header) (lent x y)) (v .0) (u .0) ∙ storable-vector r t;
-    }
+module _ (r : Vector) (scratch : Planes) (t : Storable r) (hv : wordCount (r .header .width) ≤ length (scratch .value)) (hu : wordCount (r .header .width) ≤ length (scratch .unknown)) where
+  abbrev n : ℕ
+  n = wordCount (r .header .width)
+
+  planes : Checked (r .header .width) (planesOf (r .bits))
+  planes = storable-sound r t .planes
+
+  v : (take n (worked r scratch .value) ≡ valuePlane (r .bits)) × (length (worked r scratch .value) ≡ length (scratch .value))
+  v = front-is n (valuePlane (r .bits)) (scratch .value) (planes .value-plane .count) hv
+
+  u : (take n (worked r scratch .unknown) ≡ unknownPlane (r .bits)) × (length (worked r scratch .unknown) ≡ length (scratch .unknown))
+  u = front-is n (unknownPlane (r .bits)) (scratch .unknown) (planes .unknown-plane .count) hu
+
+  pub worked-front : Front (r .header) r (worked r scratch)
+  worked-front = record {
+    value-long = omega (arith, v .1, hv);
+    unknown-long = omega (arith, u .1, hu);
+    value-plane = subst (Plane (r .header .width)) (sym (v .0)) (planes .value-plane);
+    unknown-plane = subst (Plane (r .header .width)) (sym (u .0)) (planes .unknown-plane);
+    holds = ap₂ (λ (x y : List ℕ). vector (r .header) (lent x y)) (v .0) (u .0) ∙ storable-vector r t;
+  }
+
+  worked-room : (a b : Planes) → length (b .value) ≡ length (a .value) → roomOf b (worked r scratch) ≡ roomOf a scratch
+  worked-room a b e = λ k. record { arena = e k; scratch = min (v .1 k) (u .1 k) }
+
+-- ---- where a state holds the cells cs
+
+module _ (s : State) (cs : List Vector) (p : Planes) (step : Step) (holds : Holds s cs) where
+  abbrev before : Memory
+  before = memory s p
+
+  pub step-check : checkMemory before step ≡ checkStep (roomOf (s .arenas) p) (headersOf cs) step
+  unfolding checkStore
+  step-check = simp (holds .agreed) (ap (λ (hs : List Header). checkStep (roomOf (s .arenas) p) hs step) (holds-headers s cs holds))
+
+  abbrev r : Vector
+  r = stepVector s step
+
+  pub step-holds : checkStep (roomOf (s .arenas) p) (headersOf cs) step ≡ given tt
+      → let o = addStep before step in Added (o .answer) before (o .left) cs (stepCell cs step)
+  step-holds e =
+      let h = step-admitted before step (holds .places) (step-check ∙ e) in
+      let t = step-storable before step (holds .places) h in
+      subst (λ (x : Answer Unit). let o = orRefuse x before (outcome (given (s .store .count)) (stepped r before)) in Added (o .answer) before (o .left) cs (stepCell cs step))
+      (sym (step-check ∙ e))
+      (subst (Added (given (s .store .count)) before (stepped r before) cs) (ap (λ (l : List Vector). stepCell l step) (holds .cells)) (record {
+        answered = ap given (sym (held-count s cs holds));
+        holds = append-holds s cs r holds t (h .few) (h .room);
+        room = worked-room r p t (h .value-room) (h .unknown-room) (s .arenas) (appended r s .arenas) (value-length s cs r holds t (h .few) (h .room));
+      }))
