@@ -6,7 +6,7 @@
 --     storable-sound, storable-vector     a vector that a cell can hold: its planes are in order and hold it
 --     append-holds    a vector put behind the last cell is held behind the others
 use mathlib.Core.Path.{_≡_, refl, sym, ap, ap₂, _∙_, subst}
-use mathlib.Core.Bool.{Bool, true, false}
+use mathlib.Core.Bool.{true}
 use mathlib.Core.List.{List, [], _∷_, _++_, map, map-map}
 use Prim.Native.Nat.{ℕ, _+_, _≤_, _<_}
 use native.Mathlib.Omega.{arith}

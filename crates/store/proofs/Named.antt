@@ -2,16 +2,14 @@
 --     unread          what an op refuses and gives does not depend on the operands that it does not use
 --     names-within    each cell that an accepted step names is filled
 --     arms-named, header-named, vector-named     what the machine reads of a step's operands is what the named cells hold
-use mathlib.Core.Path.{_≡_, refl, sym, ap, ap₂, _∙_}
+use mathlib.Core.Path.{_≡_, refl, ap, ap₂, _∙_}
 use mathlib.Core.Bool.{Bool, true, false, _&&_, _||_, cond}
-use mathlib.Core.List.{List, []}
+use mathlib.Core.List.{[]}
 use Prim.Native.Nat.{ℕ, _<_}
 use borrow.Author.Tests.{ltb-true}
 use lib.Dec.{ltb}
 use lib.ListN.{List·getD-map}
 use Rattle.words.specs.Vector.{tabulate}
-use Rattle.words.specs.Planes.{Planes}
-use Rattle.value.specs.declared.Header.{Header}
 use Rattle.value.specs.Checks.{Vector}
 use Rattle.ops.specs.declared.Step.{Step}
 use Rattle.ops.specs.declared.Question.the-variants as question

@@ -1,7 +1,6 @@
 -- Document 01, "Cell store", "Step list" and "Numbers for what is not done": what adding a step does to the store, its arenas and the two lent
 -- scratch planes.
 use mathlib.Core.Bool.{cond}
-use mathlib.Core.List.{List}
 use Prim.Native.Nat.{ℕ}
 use lib.Dec.{ltb}
 use lib.ListN.{getD}

@@ -80,7 +80,8 @@ fn named_cells(s: Store, step: Step) -> Operands
     }
 }
 
-// Whether a step is refused by 12, 11, 7 or 13, where the next cell begins at word `at` of arenas of `arena` words.
+// Whether a step is refused by 12, 11, 7 or 13, where the next cell begins at word `at` of arenas of `arena` words, and the scratch planes have
+// `value` and `unknown` words.
 fn check_step(
     s: Store,
     step: Step,

@@ -1,6 +1,5 @@
 -- `store::Store::add_step`: refused as checked, else worked out and put behind the last cell.
 use mathlib.Core.Path.{_≡_, sym, ap, ap₂, _∙_, subst}
-use Prim.Native.Nat.{ℕ}
 use native.Mathlib.Omega.{arith}
 use lib.ListN.{length, length-map}
 use Rattle.refusal.specs.Refusals.{refusalNumber}

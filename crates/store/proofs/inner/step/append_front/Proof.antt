@@ -1,12 +1,11 @@
 -- `store::inner::step::append_front`: the first words of each scratch plane are handed on.
 use mathlib.Core.Path.{_≡_, sym, ap, _∙_, subst}
-use mathlib.Core.List.{List}
 use Prim.Native.Nat.{ℕ, _-_}
 use native.Mathlib.Omega.{arith}
 use lib.ListN.{take}
 use Rattle.words.specs.Planes.{wordCount, lent, Plane}
 use Rattle.value.specs.Checks.{vector}
-use Rattle.store.specs.Store.{State, state, appended}
+use Rattle.store.specs.Store.{state, appended}
 use borrow.Author.Needs.{needs}
 use Rattle.store.proofs.inner.step.append_front.Statement.{statement}
 use Rattle.store.proofs.inner.step.append_front.Tie as tie

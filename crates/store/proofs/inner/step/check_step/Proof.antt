@@ -8,7 +8,6 @@ use borrow.Author.Tests.{le-leb, lt-leb, lt-ltb, le-ltb, not-true, not-false}
 use lib.ListN.{length, length-map}
 use Rattle.words.specs.Planes.{wordCount}
 use Rattle.value.specs.declared.Header.{Header}
-use Rattle.ops.specs.declared.Step.{Step}
 use Rattle.ops.specs.Ops.{armsRefused, opHeader}
 use Rattle.machine.specs.Machine.{headerAt, names, stepHeader, wordsTaken, checkStep}
 use Rattle.store.specs.declared.Operands.{Operands}

@@ -1,9 +1,8 @@
 -- `store::inner::step::named`: by the number of operands.
 use mathlib.Core.Path.{ap, _∙_}
-use mathlib.Core.Bool.{Bool, cond}
+use mathlib.Core.Bool.{cond}
 use Prim.Native.Nat.{ℕ}
 use lib.Dec.{ltb}
-use Rattle.ops.specs.declared.Step.{Step}
 use borrow.Author.Needs.{needs}
 use Rattle.store.proofs.inner.step.named.Statement.{statement}
 use Rattle.store.proofs.inner.step.named.Tie as tie

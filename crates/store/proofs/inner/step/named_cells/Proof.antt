@@ -5,7 +5,6 @@ use native.Mathlib.Omega.{arith}
 use lib.ListN.{getD}
 use lib.Seq.{getD-take}
 use Rattle.ops.specs.declared.Step.{Step}
-use Rattle.store.specs.declared.Cell.{Cell}
 use Rattle.store.specs.Store.{noCell}
 use Rattle.store.specs.Step.{named, cellNumber}
 use Rattle.store.proofs.Named.{Within, names-within}

@@ -3,7 +3,6 @@ use mathlib.Core.Path.{_≡_, sym, _∙_, subst}
 use mathlib.Core.Bool.{true}
 use mathlib.Core.List.{List}
 use Prim.Native.Nat.{ℕ}
-use lib.ListN.{length}
 use Rattle.words.specs.Planes.{Planes, lent, planesOf, Plane}
 use Rattle.value.specs.Checks.{vector}
 use Rattle.ops.specs.Ops.{opVector}

@@ -1,21 +1,21 @@
 -- `store::inner::step::work_step`: the cells that an accepted step names fit, and hold what the machine reads of them.
 use mathlib.Core.Path.{_≡_, sym, ap, _∙_, subst}
 use mathlib.Core.Bool.{true, false}
-use Prim.Native.Nat.{ℕ, _-_, _≤_}
+use Prim.Native.Nat.{ℕ, _-_}
 use native.Mathlib.Omega.{arith}
-use lib.ListN.{length, take, length-map}
+use lib.ListN.{length, length-map}
 use lib.Seq.{length-take-le}
-use Rattle.words.specs.Planes.{wordCount, Planes, lent, planesOf}
+use Rattle.words.specs.Planes.{wordCount, lent, planesOf}
 use Rattle.value.specs.declared.Header.{Header}
 use Rattle.value.specs.Checks.{Vector}
-use Rattle.ops.specs.Ops.{armsRefused, opHeader, opVector}
+use Rattle.ops.specs.Ops.{armsRefused, opVector}
 use Rattle.store.specs.declared.Operands.{Operands}
-use Rattle.store.specs.Store.{State, state, cellVector, cellAgrees}
+use Rattle.store.specs.Store.{state, cellVector, cellAgrees}
 use Rattle.store.specs.Step.{Memory, memory, stepVector}
 use Rattle.store.proofs.Spans.{fits-cell, state-agrees}
 use Rattle.store.proofs.Held.{storable-sound}
 use Rattle.store.proofs.Named.{vector-named}
-use Rattle.store.proofs.Steps.{Admitted, step-admitted, Fitting, named-fits, step-storable, front-back}
+use Rattle.store.proofs.Steps.{Admitted, step-admitted, named-fits, step-storable, front-back}
 use borrow.Author.Needs.{needs}
 use Rattle.store.proofs.inner.step.work_step.Statement.{statement}
 use Rattle.store.proofs.inner.step.work_step.Tie as tie
