@@ -23,7 +23,7 @@ use Rattle.value.specs.declared.Header.{Header}
 use Rattle.value.specs.Checks.{Vector, vector}
 use Rattle.value.proofs.Checks.{Sound}
 use Rattle.ops.specs.declared.Step.{Step}
-use Rattle.ops.specs.Ops.{armsRefused, opVector}
+use Rattle.ops.specs.Ops.{armsRefused}
 use Rattle.ops.proofs.Results.{result-width}
 use Rattle.ops.proofs.Accepted.{result-sound}
 use Rattle.machine.specs.Machine.{headersOf, headerAt, names, stepHeader, wordsTaken, checkStep, stepCell}
@@ -31,7 +31,7 @@ use Rattle.store.specs.declared.Cell.{Cell}
 use Rattle.store.specs.Store.{State, noCell, cellPlanes, cellVector, storeHeaders, nextWord, agrees, checkStore, put, putPlanes, appended, roomOf, Holds}
 use Rattle.store.specs.Step.{Memory, memory, checkMemory, stepVector, worked, stepped, addStep, cellNumber, namedCells}
 use Rattle.store.proofs.Spans.{Fits, headers-count, filled-fits, state-agrees, next-within}
-use Rattle.store.proofs.Held.{Readable, fits-read, held-count, holds-headers, Storable, storable-sound, storable-vector, append-holds, value-length, Added}
+use Rattle.store.proofs.Held.{fits-read, held-count, holds-headers, Storable, storable-sound, storable-vector, append-holds, value-length, Added}
 use Rattle.store.proofs.Tail.{put-span, put-length}
 use Rattle.store.proofs.Named.{Within, names-within, arms-named, header-named, vector-named}
 

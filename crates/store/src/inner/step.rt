@@ -27,29 +27,13 @@ ghost use Rattle.value.specs.Checks.{vector};
 ghost use Rattle.ops.specs.Ops.{armsRefused, opHeader, opVector};
 ghost use Rattle.machine.specs.Machine.{names, checkStep};
 ghost use Rattle.store.specs.Store.{state, storeHeaders, cellVector, nextWord, cellAgrees, placeAnswer, appended};
-ghost use Rattle.store.specs.Step.{memory, checkMemory, stepVector, worked, named, namedCells};
+ghost use Rattle.store.specs.Step.{memory, checkMemory, stepVector, worked, namedCells};
 
 // The first number where the test holds, else the second.
 fn choose(test: bool, x: u32, y: u32) -> u32
     ensures { λ r. ⌜ r ≡ cond test x y ⌝ }
 {
     if test { x } else { y }
-}
-
-// The step with the number of a for each operand that its op does not use.
-fn named(step: Step) -> Step
-    ensures { λ r. ⌜ r ≡ named step ⌝ }
-{
-    let op = step.op;
-    let n = operand_count(op);
-    let b = choose(n < 2, step.a, step.b);
-    let c = choose(n < 3, step.a, step.c);
-    Step {
-        op: op,
-        a: step.a,
-        b: b,
-        c: c,
-    }
 }
 
 // Whether each operand that the step's op uses names one of the first n cells.
@@ -64,15 +48,16 @@ fn names_filled(n: usize, step: Step) -> bool
     (a < n) & ((k < 2) | (b < n)) & ((k < 3) | (c < n))
 }
 
-// The cells that a step names.
+// The cells that a step names; where its op does not use an operand, the first cell again.
 fn named_cells(s: Store, step: Step) -> Operands
     requires { ⌜ (s .count ≤ 320) × (names (s .count) step ≡ true) ⌝ }
     ensures { λ r. ⌜ r ≡ namedCells s step ⌝ }
 {
-    let t = named(step);
-    let a = t.a as usize;
-    let b = t.b as usize;
-    let c = t.c as usize;
+    let op = step.op;
+    let n = operand_count(op);
+    let a = step.a as usize;
+    let b = choose(n < 2, step.a, step.b) as usize;
+    let c = choose(n < 3, step.a, step.c) as usize;
     Operands {
         a: s.cells[a],
         b: s.cells[b],

@@ -1,10 +1,11 @@
 -- `store::inner::step::named_cells`: each number names a filled cell (`names-within`).
-use mathlib.Core.Path.{_≡_, sym, ap, _∙_}
+use mathlib.Core.Path.{_≡_, refl, sym, ap, _∙_}
+use mathlib.Core.Bool.{cond}
 use Prim.Native.Nat.{ℕ, _<_}
 use native.Mathlib.Omega.{arith}
+use lib.Dec.{ltb}
 use lib.ListN.{getD}
 use lib.Seq.{getD-take}
-use Rattle.ops.specs.declared.Step.{Step}
 use Rattle.store.specs.Store.{noCell}
 use Rattle.store.specs.Step.{named, cellNumber}
 use Rattle.store.proofs.Named.{Within, names-within}
@@ -12,72 +13,95 @@ use borrow.Author.Needs.{needs}
 use Rattle.store.proofs.inner.step.named_cells.Statement.{statement}
 use Rattle.store.proofs.inner.step.named_cells.Tie as tie
 
-within : (n : tie.After-named) → Within (n .before .args .t1 .count) (n .before .args .step)
-within n = names-within (n .before .args .t1 .count) (n .before .args .step) (n .before .pre .1)
+within : (s : tie.Start) → Within (s .args .t1 .count) (s .args .step)
+within s = names-within (s .args .t1 .count) (s .args .step) (s .pre .1)
 
-read : (n : tie.After-named) (i j : ℕ) → i ≡ j → j < n .before .args .t1 .count → getD (n .before .args .t1 .cells) i noCell ≡ cellNumber (n .before .args .t1) j
-read n i j e h =
-    let s = n .before .args .t1 in
-    ap (λ (k : ℕ). getD (s .cells) k noCell) e ∙ sym (getD-take (s .count) (s .cells) j noCell h)
+read : (s : tie.Start) (i j : ℕ) → i ≡ j → j < s .args .t1 .count → getD (s .args .t1 .cells) i noCell ≡ cellNumber (s .args .t1) j
+read s i j e h =
+    let t = s .args .t1 in
+    ap (λ (k : ℕ). getD (t .cells) k noCell) e ∙ sym (getD-take (t .count) (t .cells) j noCell h)
 
-named-requires : tie.Need-named-requires
-named-requires c κs = search needs
+module _ (k : tie.After-choose2) where
+  abbrev counted : tie.After-operand-count
+  counted = k .before .before .before
+
+  abbrev start : tie.Start
+  start = counted .before
+
+  second : k .before .choose .result ≡ named (start .args .step) .b
+  second = let s = start .args .step in k .before .choose .ensures ∙ ap (λ (n : ℕ). cond (ltb n 2) (s .a) (s .b)) (counted .operand-count .ensures)
+
+  third : k .choose2 .result ≡ named (start .args .step) .c
+  third = let s = start .args .step in k .choose2 .ensures ∙ ap (λ (n : ℕ). cond (ltb n 3) (s .a) (s .c)) (counted .operand-count .ensures)
+
+operand-count-requires : tie.Need-operand-count-requires
+operand-count-requires c κs = search needs
 
 cast-a : tie.Need-cast-a
 cast-a c = search needs
 
+choose-requires : tie.Need-choose-requires
+choose-requires c κs = search needs
+
 cast-b : tie.Need-cast-b
 cast-b c = search needs
+
+choose-requires-2 : tie.Need-choose-requires-2
+choose-requires-2 c κs = search needs
 
 cast-c : tie.Need-cast-c
 cast-c c = search needs
 
-mul-t8 : tie.Need-mul-t8
-mul-t8 c = search needs
+mul-t11 : tie.Need-mul-t11
+mul-t11 c = search needs
 
-element-copy-out-t11 : tie.Need-element-copy-out-t11
-element-copy-out-t11 c =
-    let n = c .before .before .before in
-    omega (arith, within n .a, ap (λ (s : Step). s .a) (n .named .ensures), n .before .pre .0)
+element-copy-out-t14 : tie.Need-element-copy-out-t14
+element-copy-out-t14 c =
+    let s = start c in
+    omega (arith, within s .a, s .pre .0)
 
-mul-t12 : tie.Need-mul-t12
-mul-t12 c = search needs
+mul-t15 : tie.Need-mul-t15
+mul-t15 c = search needs
 
-element-copy-out-t15 : tie.Need-element-copy-out-t15
-element-copy-out-t15 c =
-    let n = c .before .before .before .before in
-    omega (arith, within n .b, ap (λ (s : Step). s .b) (n .named .ensures), n .before .pre .0)
+element-copy-out-t18 : tie.Need-element-copy-out-t18
+element-copy-out-t18 c =
+    let k = c .before in
+    let s = start k in
+    omega (arith, within s .b, second k, s .pre .0)
 
-mul-t16 : tie.Need-mul-t16
-mul-t16 c = search needs
+mul-t19 : tie.Need-mul-t19
+mul-t19 c = search needs
 
-element-copy-out-t19 : tie.Need-element-copy-out-t19
-element-copy-out-t19 c =
-    let n = c .before .before .before .before .before in
-    omega (arith, within n .c, ap (λ (s : Step). s .c) (n .named .ensures), n .before .pre .0)
+element-copy-out-t22 : tie.Need-element-copy-out-t22
+element-copy-out-t22 c =
+    let k = c .before .before in
+    let s = start k in
+    omega (arith, within s .c, third k, s .pre .0)
 
 returns : tie.Need-returns
 returns c =
-    let n = c .before .before .before .before .before .before in
-    let e = n .named .ensures in
-    λ k. record {
-      a = read n (n .named .result .a) (named (n .before .args .step) .a) (ap (λ (s : Step). s .a) e) (within n .a) k;
-      b = read n (n .named .result .b) (named (n .before .args .step) .b) (ap (λ (s : Step). s .b) e) (within n .b) k;
-      c = read n (n .named .result .c) (named (n .before .args .step) .c) (ap (λ (s : Step). s .c) e) (within n .c) k;
+    let k = c .before .before .before in
+    let s = start k in
+    λ i. record {
+      a = read s (s .args .step .a) (named (s .args .step) .a) refl (within s .a) i;
+      b = read s (k .before .choose .result) (named (s .args .step) .b) (second k) (within s .b) i;
+      c = read s (k .choose2 .result) (named (s .args .step) .c) (third k) (within s .c) i;
     }
 
 pub named-cells-spec : {M : Type 1} → statement M
 named-cells-spec =
     tie.close
     (tie.spec
-    named-requires
+    operand-count-requires
     cast-a
+    choose-requires
     cast-b
+    choose-requires-2
     cast-c
-    mul-t8
-    element-copy-out-t11
-    mul-t12
-    element-copy-out-t15
-    mul-t16
-    element-copy-out-t19
+    mul-t11
+    element-copy-out-t14
+    mul-t15
+    element-copy-out-t18
+    mul-t19
+    element-copy-out-t22
     returns)
