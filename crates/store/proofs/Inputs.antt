@@ -33,7 +33,8 @@ pub record Accepted (s : State) (h : Header) (p : Planes) : Type 0 where
 pub input-accepted : (s : State) (h : Header) (p : Planes) → length (s .store .cells) ≡ 320 → checkInput s h p ≡ given tt → Accepted s h p
 unfolding checkStore
 input-accepted s h p n e =
-    go (agrees s) refl (leb 320 (length (storeHeaders (s .store)))) refl (checkVector h p) refl (ltb (length (s .arenas .value) - nextWord (s .store)) (wordCount (h .width))) refl e
+    go (agrees s) refl (leb 320 (length (storeHeaders (s .store)))) refl (checkVector h p) refl
+    (ltb (length (s .arenas .value) - nextWord (s .store)) (wordCount (h .width))) refl e
   where
     go : (a : Bool) → agrees s ≡ a → (b : Bool) → leb 320 (length (storeHeaders (s .store))) ≡ b → (c : Answer Unit) → checkVector h p ≡ c
         → (d : Bool) → ltb (length (s .arenas .value) - nextWord (s .store)) (wordCount (h .width)) ≡ d

@@ -126,7 +126,9 @@ module _ (m : Memory) (step : Step) (places : length (m .state .store .cells) �
       result-sound (o .a .header) (o .b .header) (o .c .header) (cellPlanes a (o .a)) (cellPlanes a (o .b)) (cellPlanes a (o .c)) (step .c)
       (sound-at (o .a) (named-fits .a-fits)) (sound-at (o .b) (named-fits .b-fits)) (sound-at (o .c) (named-fits .c-fits)) (step .op) (h .arms) in
       subst Storable (sym (vector-named (m .state) step)) (record {
-        width = result-width (cellVector a (o .a)) (cellVector a (o .b)) (cellVector a (o .c)) (step .c) (length-tabulate _ _) (length-tabulate _ _) (length-tabulate _ _) (step .op) (h .arms);
+        width =
+            result-width (cellVector a (o .a)) (cellVector a (o .b)) (cellVector a (o .c)) (step .c)
+            (length-tabulate _ _) (length-tabulate _ _) (length-tabulate _ _) (step .op) (h .arms);
         narrow = sound .planes .narrow;
         fill = sound .fill;
       })
@@ -156,7 +158,8 @@ front-is n p plane e h =
     let l : 0 + length p ≤ length plane = omega arith in
     (ap (λ (k : ℕ). take k (put 0 p plane)) (sym e) ∙ put-span 0 p plane l, put-length 0 p plane l)
 
-module _ (r : Vector) (scratch : Planes) (t : Storable r) (hv : wordCount (r .header .width) ≤ length (scratch .value)) (hu : wordCount (r .header .width) ≤ length (scratch .unknown)) where
+module _ (r : Vector) (scratch : Planes) (t : Storable r) (hv : wordCount (r .header .width) ≤ length (scratch .value))
+    (hu : wordCount (r .header .width) ≤ length (scratch .unknown)) where
   abbrev n : ℕ
   n = wordCount (r .header .width)
 
@@ -199,7 +202,8 @@ module _ (s : State) (cs : List Vector) (p : Planes) (step : Step) (holds : Hold
   step-holds e =
       let h = step-admitted before step (holds .places) (step-check ∙ e) in
       let t = step-storable before step (holds .places) h in
-      subst (λ (x : Answer Unit). let o = orRefuse x before (outcome (given (s .store .count)) (stepped r before)) in Added (o .answer) before (o .left) cs (stepCell cs step))
+      subst (λ (x : Answer Unit).
+      let o = orRefuse x before (outcome (given (s .store .count)) (stepped r before)) in Added (o .answer) before (o .left) cs (stepCell cs step))
       (sym (step-check ∙ e))
       (subst (Added (given (s .store .count)) before (stepped r before) cs) (ap (λ (l : List Vector). stepCell l step) (holds .cells)) (record {
         answered = ap given (sym (held-count s cs holds));

@@ -107,7 +107,8 @@ returns : tie.Need-returns
 returns c =
     let k = c .before .before .before in
     let r = c .before .r .given .0 .0 in
-    simp (answer-refused (checkMemory (all k) (st k .args .step)) (nextWord (st k .args .self)) (refusalNumber r) (sym (k .place-step .ensures) ∙ ap placeAnswer (c .before .r .given .1)))
+    simp (answer-refused (checkMemory (all k) (st k .args .step)) (nextWord (st k .args .self)) (refusalNumber r)
+    (sym (k .place-step .ensures) ∙ ap placeAnswer (c .before .r .given .1)))
 
 same-length-5 : tie.Need-same-length-5
 same-length-5 c = search needs

@@ -63,7 +63,9 @@ returns c =
     let w = p .before .before .before .before .before in
     let g = start w .args in
     p .append .ensures
-    ∙ ap (λ (n : ℕ). appended (vector (g .h) (lent (take n (g .scratch-value .now)) (take n (g .scratch-unknown .now)))) (state (g .s) (lent (g .arena-value .now) (g .arena-unknown .now)))) (size w)
+    ∙ ap (λ (n : ℕ).
+    appended (vector (g .h) (lent (take n (g .scratch-value .now)) (take n (g .scratch-unknown .now))))
+    (state (g .s) (lent (g .arena-value .now) (g .arena-unknown .now)))) (size w)
 
 pub append-front-spec : {M : Type 1} → statement M
 append-front-spec =

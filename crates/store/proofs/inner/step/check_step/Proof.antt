@@ -119,7 +119,8 @@ unfolding checkStep
 returns-4 c =
     let w = c .before in
     let st = start w in
-    let h : st .args .arena - wordsTaken (hs st) < wordCount (stepHeader (hs st) (st .args .step) .width) = omega (arith, st .pre .1, words w, c .if4 .taken) in
+    let h : st .args .arena - wordsTaken (hs st) < wordCount (stepHeader (hs st) (st .args .step) .width) =
+    omega (arith, st .pre .1, words w, c .if4 .taken) in
     simp (lt-leb _ _ (few (first w)), named-all (second w), arms-right w, lt-ltb _ _ h)
 
 returns-5 : tie.Need-returns-5
@@ -127,7 +128,8 @@ unfolding checkStep
 returns-5 c =
     let w = c .before .before in
     let st = start w in
-    let h : min (st .args .value) (st .args .unknown) < wordCount (stepHeader (hs st) (st .args .step) .width) = omega (arith, words w, c .if5 .taken) in
+    let h : min (st .args .value) (st .args .unknown) < wordCount (stepHeader (hs st) (st .args .step) .width) =
+    omega (arith, words w, c .if5 .taken) in
     simp (lt-leb _ _ (few (first w)), named-all (second w), arms-right w, le-ltb _ _ (room (c .before)), lt-ltb _ _ h)
 
 returns-6 : tie.Need-returns-6
@@ -135,7 +137,8 @@ unfolding checkStep
 returns-6 c =
     let w = c .before .before .before in
     let st = start w in
-    let h : min (st .args .value) (st .args .unknown) < wordCount (stepHeader (hs st) (st .args .step) .width) = omega (arith, words w, c .if6 .taken) in
+    let h : min (st .args .value) (st .args .unknown) < wordCount (stepHeader (hs st) (st .args .step) .width) =
+    omega (arith, words w, c .if6 .taken) in
     simp (lt-leb _ _ (few (first w)), named-all (second w), arms-right w, le-ltb _ _ (room (c .before .before)), lt-ltb _ _ h)
 
 returns-7 : tie.Need-returns-7
@@ -143,7 +146,8 @@ unfolding checkStep
 returns-7 c =
     let w = c .before .before .before in
     let st = start w in
-    let h : wordCount (stepHeader (hs st) (st .args .step) .width) ≤ min (st .args .value) (st .args .unknown) = omega (arith, words w, c .before .if5 .left, c .if6 .left) in
+    let h : wordCount (stepHeader (hs st) (st .args .step) .width) ≤ min (st .args .value) (st .args .unknown) =
+    omega (arith, words w, c .before .if5 .left, c .if6 .left) in
     simp (lt-leb _ _ (few (first w)), named-all (second w), arms-right w, le-ltb _ _ (room (c .before .before)), le-ltb _ _ h)
 
 pub check-step-spec : {M : Type 1} → statement M

@@ -30,7 +30,9 @@ module _ (t : tie.After-known-told2) where
   k = t .before .before .before
 
   found : (checkStore (all k) ≡ given tt) × (nextWord (st k .args .s) ≡ t .before .at .given .0 .0)
-  found = answer-given (checkStore (all k)) (nextWord (st k .args .s)) (t .before .at .given .0 .0) (sym (k .check-store .ensures) ∙ ap placeAnswer (t .before .at .given .1))
+  found =
+      answer-given (checkStore (all k)) (nextWord (st k .args .s)) (t .before .at .given .0 .0)
+      (sym (k .check-store .ensures) ∙ ap placeAnswer (t .before .at .given .1))
 
   agreed : agrees (all k) ≡ true
   agreed = store-accepted (all k) (found .0)

@@ -62,11 +62,20 @@ work-requires c κs =
     let c1 = c2 .before in
     let s = c1 .before .before .before .before .before in
     let o = s .args .o in (
-      (plane (o .a) _ _ (c1 .cell-words .ensures) (read-a s .sound .planes .value-plane), plane (o .a) _ _ (c2 .cell-words2 .ensures) (read-a s .sound .planes .unknown-plane)),
       (
-        (plane (o .b) _ _ (c3 .cell-words3 .ensures) (read-b s .sound .planes .value-plane), plane (o .b) _ _ (c4 .cell-words4 .ensures) (read-b s .sound .planes .unknown-plane)),
+        plane (o .a) _ _ (c1 .cell-words .ensures) (read-a s .sound .planes .value-plane),
+        plane (o .a) _ _ (c2 .cell-words2 .ensures) (read-a s .sound .planes .unknown-plane),
+      ),
+      (
         (
-          (plane (o .c) _ _ (c5 .cell-words5 .ensures) (read-c s .sound .planes .value-plane), plane (o .c) _ _ (c6 .cell-words6 .ensures) (read-c s .sound .planes .unknown-plane)),
+          plane (o .b) _ _ (c3 .cell-words3 .ensures) (read-b s .sound .planes .value-plane),
+          plane (o .b) _ _ (c4 .cell-words4 .ensures) (read-b s .sound .planes .unknown-plane),
+        ),
+        (
+          (
+            plane (o .c) _ _ (c5 .cell-words5 .ensures) (read-c s .sound .planes .value-plane),
+            plane (o .c) _ _ (c6 .cell-words6 .ensures) (read-c s .sound .planes .unknown-plane),
+          ),
           s .pre .1 .1 .1 .1,
         ),
       ),
