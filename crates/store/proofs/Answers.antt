@@ -1,9 +1,10 @@
 -- What an answer behind a check tells of the check, and when a check accepts.
+--     not-given                        a refusal is no result
 --     answer-given, answer-refused     a result: the check accepted; a refusal: the check's own
 --     both                             two tests that hold together
 --     planes-header                    the check of a vector whose planes are in order goes by the header alone
 --     vector-accepts                   a vector in order is accepted
-use mathlib.Core.Path.{_≡_, refl, ap, _∙_}
+use mathlib.Core.Path.{_≡_, refl, sym, ap, _∙_}
 use mathlib.Core.Bool.{Bool, true, false, _&&_, cond}
 use Prim.Native.Nat.{ℕ}
 use native.Mathlib.Omega.{arith}
@@ -23,12 +24,15 @@ pub both : (a b : Bool) → a && b ≡ true → (a ≡ true) × (b ≡ true)
 both true b h = (refl, h)
 both false b h = let z : _≡_ {A = ℕ} 0 1 = cc in absurd (omega arith)
 
+pub not-given : {A : Type 0} (n : ℕ) (a : A) → _≡_ {A = Answer A} (refused n) (given a) → ⊥
+not-given n a h = let z : _≡_ {A = ℕ} 0 1 = cc in omega arith
+
 pub answer-given : (x : Answer Unit) (m n : ℕ) → after x (given m) ≡ given n → (x ≡ given tt) × (m ≡ n)
 answer-given (given t) m n h = (refl, cc)
-answer-given (refused k) m n h = let z : _≡_ {A = ℕ} 0 1 = cc in absurd (omega arith)
+answer-given (refused k) m n h = absurd (not-given k n h)
 
 pub answer-refused : (x : Answer Unit) (m n : ℕ) → after x (given m) ≡ refused n → x ≡ refused n
-answer-refused (given t) m n h = let z : _≡_ {A = ℕ} 0 1 = cc in absurd (omega arith)
+answer-refused (given t) m n h = absurd (not-given n m (sym h))
 answer-refused (refused k) m n h = let e : k ≡ n = cc in ap refused e
 
 is-true : (b : Bool) → T b → b ≡ true

@@ -20,7 +20,7 @@ use Rattle.value.proofs.Checks.{Sound, vector-accepted}
 use Rattle.machine.specs.Machine.{headersOf, checkCount, checkRoom}
 use Rattle.store.specs.Store.{State, storeHeaders, nextWord, agrees, checkStore, roomOf, appended, checkInput, addInput, checkHeader, Holds}
 use Rattle.store.specs.Step.{memory}
-use Rattle.store.proofs.Answers.{planes-header}
+use Rattle.store.proofs.Answers.{not-given, planes-header}
 use Rattle.store.proofs.Spans.{headers-count, state-agrees, next-within}
 use Rattle.store.proofs.Held.{held-count, holds-headers, Storable, storable-vector, append-holds, value-length, Added}
 
@@ -40,10 +40,10 @@ input-accepted s h p n e =
         → (d : Bool) → ltb (length (s .arenas .value) - nextWord (s .store)) (wordCount (h .width)) ≡ d
         → _≡_ {A = Answer Unit} (after (cond a (given tt) (refused 14)) (after (cond b (refused 12) (given tt)) (after c (cond d (refused 13) (given tt))))) (given tt)
         → Accepted s h p
-    go false _ b _ c _ d _ e = let z : _≡_ {A = ℕ} 0 1 = cc in absurd (omega arith)
-    go true _ true _ c _ d _ e = let z : _≡_ {A = ℕ} 0 1 = cc in absurd (omega arith)
-    go true _ false _ (refused n) _ d _ e = let z : _≡_ {A = ℕ} 0 1 = cc in absurd (omega arith)
-    go true _ false _ (given t) _ true _ e = let z : _≡_ {A = ℕ} 0 1 = cc in absurd (omega arith)
+    go false _ b _ c _ d _ e = absurd (not-given 14 tt e)
+    go true _ true _ c _ d _ e = absurd (not-given 12 tt e)
+    go true _ false _ (refused n) _ d _ e = absurd (not-given n tt e)
+    go true _ false _ (given t) _ true _ e = absurd (not-given 13 tt e)
     go true ea false eb (given t) ec false ed e =
         record {
           agreed = ea;

@@ -24,7 +24,7 @@ use Rattle.machine.specs.Machine.{wordsTaken}
 use Rattle.store.specs.declared.Cell.{Cell}
 use Rattle.store.specs.declared.Store.{Store}
 use Rattle.store.specs.Store.{State, filled, cellWords, span, cellPlanes, cellVector, cellHeaders, storeHeaders, nextWord, accepts, cellAgrees, cellsAgree, agrees, checkStore}
-use Rattle.store.proofs.Answers.{both}
+use Rattle.store.proofs.Answers.{both, not-given}
 
 -- ---- one cell
 
@@ -165,4 +165,4 @@ store-accepted s h = go (agrees s) h
   where
     go : (b : Bool) → _≡_ {A = Answer Unit} (cond b (given tt) (refused 14)) (given tt) → b ≡ true
     go true h = refl
-    go false h = let z : _≡_ {A = ℕ} 0 1 = cc in absurd (omega arith)
+    go false h = absurd (not-given 14 tt h)

@@ -30,6 +30,7 @@ use Rattle.machine.specs.Machine.{headersOf, headerAt, names, stepHeader, words
 use Rattle.store.specs.declared.Cell.{Cell}
 use Rattle.store.specs.Store.{State, noCell, cellPlanes, cellVector, storeHeaders, nextWord, agrees, checkStore, put, putPlanes, appended, roomOf, Holds}
 use Rattle.store.specs.Step.{Memory, memory, checkMemory, stepVector, worked, stepped, addStep, cellNumber, namedCells}
+use Rattle.store.proofs.Answers.{not-given}
 use Rattle.store.proofs.Spans.{Fits, headers-count, filled-fits, state-agrees, next-within}
 use Rattle.store.proofs.Held.{fits-read, held-count, holds-headers, Storable, storable-sound, storable-vector, append-holds, value-length, Added}
 use Rattle.store.proofs.Tail.{put-span, put-length}
@@ -75,12 +76,12 @@ module _ (m : Memory) (step : Step) (places : length (m .state .store .cells) �
           → _≡_ {A = Answer Unit} (after (cond a (given tt) (refused 14)) (after (cond b (refused 12) (given tt)) (after (cond n (given tt) (refused 11))
           (after (cond x (refused 7) (given tt)) (after (cond y (refused 13) (given tt)) (cond z (refused 13) (given tt))))))) (given tt)
           → Admitted m step
-      go false _ b _ n _ x _ y _ z _ e = let q : _≡_ {A = ℕ} 0 1 = cc in absurd (omega arith)
-      go true _ true _ n _ x _ y _ z _ e = let q : _≡_ {A = ℕ} 0 1 = cc in absurd (omega arith)
-      go true _ false _ false _ x _ y _ z _ e = let q : _≡_ {A = ℕ} 0 1 = cc in absurd (omega arith)
-      go true _ false _ true _ true _ y _ z _ e = let q : _≡_ {A = ℕ} 0 1 = cc in absurd (omega arith)
-      go true _ false _ true _ false _ true _ z _ e = let q : _≡_ {A = ℕ} 0 1 = cc in absurd (omega arith)
-      go true _ false _ true _ false _ false _ true _ e = let q : _≡_ {A = ℕ} 0 1 = cc in absurd (omega arith)
+      go false _ b _ n _ x _ y _ z _ e = absurd (not-given 14 tt e)
+      go true _ true _ n _ x _ y _ z _ e = absurd (not-given 12 tt e)
+      go true _ false _ false _ x _ y _ z _ e = absurd (not-given 11 tt e)
+      go true _ false _ true _ true _ y _ z _ e = absurd (not-given 7 tt e)
+      go true _ false _ true _ false _ true _ z _ e = absurd (not-given 13 tt e)
+      go true _ false _ true _ false _ false _ true _ e = absurd (not-given 13 tt e)
       go true ea false eb true en false ex false ey false ez e =
           let counted : length hs ≡ s .store .count = headers-count (s .store) places (state-agrees s ea .few) in
           let same : words ≡ wordCount (stepVector s step .header .width) = ap (λ (h : Header). wordCount (h .width)) (header-vector s step) in
