@@ -5,6 +5,7 @@
 --     empty-holds     an empty store holds no cells
 --     storable-sound, storable-vector     a vector that a cell can hold: its planes are in order and hold it
 --     append-holds    a vector put behind the last cell is held behind the others
+--     Added           what is so once a call has added a vector
 use mathlib.Core.Path.{_≡_, refl, sym, ap, ap₂, _∙_, subst}
 use mathlib.Core.Bool.{true}
 use mathlib.Core.List.{List, [], _∷_, _++_, map, map-map}

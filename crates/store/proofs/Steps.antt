@@ -2,10 +2,10 @@
 --     step-admitted   what its check has found
 --     named-fits      the cells that it names fit
 --     step-storable   a cell can hold its result
+--     front-back      what scratch planes hold after their first words were lent
 --     worked-front    the scratch planes then begin with its result
 --     step-check      where a state holds cells, the check goes by headers alone
 --     step-holds      its result is held behind the others
---     front-back      what scratch planes hold after their first words were lent
 use mathlib.Core.Path.{_≡_, refl, sym, ap, ap₂, _∙_, subst}
 use mathlib.Core.Bool.{Bool, true, false, cond}
 use mathlib.Core.List.{List, _++_}
