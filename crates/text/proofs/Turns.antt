@@ -1,7 +1,8 @@
 -- The readers at a place of a text, one law for each way through the code.
 --     key-done, key-ends, key-same, key-other       the bytes of a key
 --     more-.., number-..    the digits of a number, and its first
---     bits-done, bits-ends, bits-other, bits-bit    the bits of a vector, of which some are read
+--     many-done, many-next, many-broken     several values, of which some are read
+--     bits-ends, bits-other, bits-bit       the bits of a vector, of which some are read
 use mathlib.Core.Path.{_≡_, refl, sym, ap}
 use mathlib.Core.Bool.{true, false}
 use mathlib.Core.List.{List, [], _∷_, _++_, append-nil}
@@ -97,34 +98,43 @@ module _ (s : List ℕ) (m i : ℕ) (h : i < length s) where
     unfolding number
     number-digit q = rw (add-one, drop-cons s i 0, ne-eqb _ _ ne, le-leb _ _ lo, le-leb _ _ hi, le-leb _ _ q)
 
--- ---- the bits of a vector
+-- ---- several values, of which some are read
 
--- what is read, behind the bits that were read before it
-abbrev pub behind : List LogicBit → Got (List LogicBit) → Got (List LogicBit)
-behind bs g = next g (λ l. found (bs ++ l))
+-- what is read, behind the values that were read before it
+abbrev pub behind : {A : Type 0} → List A → Got (List A) → Got (List A)
+behind before g = next g (λ l. found (before ++ l))
 
-pub behind-none : (g : Got (List LogicBit)) → g ≡ behind [] g
+pub behind-none : {A : Type 0} (g : Got (List A)) → g ≡ behind [] g
 behind-none (found l u) = refl
 behind-none broken = refl
 
-behind-one : (bs : List LogicBit) (b : LogicBit) (g : Got (List LogicBit)) → behind bs (next g (λ l. found (b ∷ l))) ≡ behind (bs ++ (b ∷ [])) g
-behind-one bs b (found l u) = ap (λ (z : List LogicBit). found z u) (sym (append-snoc bs b l))
-behind-one bs b broken = refl
+behind-one : {A : Type 0} (before : List A) (a : A) (g : Got (List A)) → behind before (next g (λ l. found (a ∷ l))) ≡ behind (before ++ (a ∷ [])) g
+behind-one {A} before a (found l u) = ap (λ (z : List A). found z u) (sym (append-snoc before a l))
+behind-one before a broken = refl
 
-pub bits-done : (bs : List LogicBit) (t : List ℕ) → behind bs (many bit 0 t) ≡ found bs t
-unfolding many
-bits-done bs t = ap (λ (z : List LogicBit). found z t) (append-nil bs)
+module _ {A : Type 0} (r : List ℕ → Got A) (before : List A) (t : List ℕ) where
+  pub many-done : behind before (many r 0 t) ≡ found before t
+  unfolding many
+  many-done = ap (λ (z : List A). found z t) (append-nil before)
+
+  pub many-next : (n : ℕ) (a : A) (u : List ℕ) → r t ≡ found a u → behind before (many r (suc n) t) ≡ behind (before ++ (a ∷ [])) (many r n u)
+  unfolding many
+  many-next n a u e = rw e (behind-one before a (many r n u))
+
+  pub many-broken : (n : ℕ) → r t ≡ broken → behind before (many r (suc n) t) ≡ broken
+  unfolding many
+  many-broken n e = rw e
 
 module _ (s : List ℕ) (bs : List LogicBit) (i n : ℕ) where
   pub bits-ends : length s ≤ i → behind bs (many bit (suc n) (drop i s)) ≡ broken
-  unfolding many bit
-  bits-ends h = rw (drop-of-length-le s h)
+  unfolding bit
+  bits-ends h = many-broken bit bs (drop i s) n (rw (drop-of-length-le s h))
 
   pub bits-other : i < length s → isBit (getD s i 0) ≡ false → behind bs (many bit (suc n) (drop i s)) ≡ broken
-  unfolding many bit
-  bits-other h e = rw (drop-cons s i 0 h, e)
+  unfolding bit
+  bits-other h e = many-broken bit bs (drop i s) n (rw (drop-cons s i 0 h, e))
 
   pub bits-bit : i < length s → isBit (getD s i 0) ≡ true
       → behind bs (many bit (suc n) (drop i s)) ≡ behind (bs ++ (ofByte (getD s i 0) ∷ [])) (many bit n (drop (i + 1) s))
-  unfolding many bit
-  bits-bit h e = rw (add-one, drop-cons s i 0 h, e) (behind-one bs (ofByte (getD s i 0)) (many bit n (drop (suc i) s)))
+  unfolding bit
+  bits-bit h e = many-next bit bs (drop i s) n (ofByte (getD s i 0)) (drop (i + 1) s) (rw (add-one, drop-cons s i 0 h, e))

@@ -1,22 +1,20 @@
 -- The bits of a vector: what is read is what is written, and where each bit stands in the text.
 --     bits-exact, bitsLine-exact     the readers of exactly n bits, and of a line of them
---     bits-at       bit j of a vector of width n is that of the character at n - 1 - j
-use mathlib.Core.Path.{_≡_, refl, sym, ap, _∙_}
+--     bits-at       what is read is the vector of those characters
+use mathlib.Core.Path.{_≡_, refl, sym, ap, ap₂, _∙_}
 use mathlib.Core.Bool.{Bool, true, false, _||_, cond}
-use mathlib.Core.List.{List, [], _∷_, _++_, append-assoc, reverse, reverse-cons, reverse-reverse}
-use Prim.Native.Nat.{ℕ, zero, suc, _+_, _-_, _<_}
+use mathlib.Core.List.{List, [], _∷_, _++_, append-assoc, map, reverse, reverse-reverse}
+use Prim.Native.Nat.{ℕ}
 use native.Mathlib.Omega.{arith}
 use lib.Dec.{eqb}
-use lib.ListN.{length, getD, drop, length-reverse, List·getD-append}
-use lib.Seq.{getD-at, getD-drop}
+use lib.ListN.{length, take, drop, length-reverse}
 use borrow.Author.Tests.{eqb-true}
 use Rattle.bit.specs.declared.LogicBit.{LogicBit}
 use Rattle.bit.specs.declared.LogicBit.the-variants.{Zero, One, X, Z}
-use Rattle.words.specs.Vector.{tabulate}
-use Rattle.words.proofs.Planes.{eq-tabulate}
 use Rattle.text.specs.Read.{found, lineEnd, isBit, ofByte, bit, bits, bitsLine}
 use Rattle.text.specs.Write.{texts, bitByte, bitText, bitsText}
 use Rattle.text.specs.Exact.{Exact, All}
+use Rattle.text.specs.Answers.{bitsIn}
 use Rattle.text.proofs.Exact.{when-found, next-exact, made-exact, limit-exact, after-key, many-exact}
 
 -- ---- a bit
@@ -78,42 +76,18 @@ pub bitsLine-exact : (k : List ℕ) (n : ℕ) → Exact (bitsLine k n) (λ bs. k
 unfolding bitsLine
 bitsLine-exact k n = after-key k (bits-exact n)
 
--- ---- where a bit stands
+-- ---- where the bits stand
 
-getD-reverse : (bs : List LogicBit) (j : ℕ) → j < length bs → getD (reverse bs) (length bs - 1 - j) Zero ≡ getD bs j Zero
-getD-reverse [] j l = absurd (omega arith)
-getD-reverse (b ∷ bs) zero l =
-    let k : ℕ = suc (length bs) - 1 - 0 in
-    ap (λ (z : List LogicBit). getD z k Zero) (reverse-cons b bs) ∙ getD-at (reverse bs) b [] Zero k (omega (arith, length-reverse bs))
-getD-reverse (b ∷ bs) (suc j) l =
-    let k : ℕ = suc (length bs) - 1 - suc j in
-    let e : k ≡ length bs - 1 - j = omega arith in
-    ap (λ (z : List LogicBit). getD z k Zero) (reverse-cons b bs)
-    ∙ List·getD-append (reverse bs) (b ∷ []) Zero k (omega (arith, length-reverse bs))
-    ∙ ap (λ (i : ℕ). getD (reverse bs) i Zero) e
-    ∙ getD-reverse bs j (omega arith)
-
-byte-at : (bs : List LogicBit) (u : List ℕ) (i : ℕ) → i < length bs → getD (texts bitText bs ++ u) i 0 ≡ bitByte (getD bs i Zero)
+bytes-read : (bs : List LogicBit) (u : List ℕ) → map ofByte (take (length bs) (texts bitText bs ++ u)) ≡ bs
 unfolding texts
-byte-at [] u i l = absurd (omega arith)
-byte-at (b ∷ bs) u zero l = refl
-byte-at (b ∷ bs) u (suc i) l = byte-at bs u i (omega arith)
+bytes-read [] u = refl
+bytes-read (b ∷ bs) u = ap₂ (λ (x : LogicBit) (l : List LogicBit). x ∷ l) (of-byte b) (bytes-read bs u)
 
-pub bits-at : (n : ℕ) (s : List ℕ) (from : ℕ) (bs : List LogicBit) (u : List ℕ) → bits n (drop from s) ≡ found bs u
-    → bs ≡ tabulate n (λ j. ofByte (getD s (from + (n - 1 - j)) 0))
-unfolding bitsText
+pub bits-at : (n : ℕ) (s : List ℕ) (from : ℕ) (bs : List LogicBit) (u : List ℕ) → bits n (drop from s) ≡ found bs u → bs ≡ bitsIn s from n
+unfolding bitsText bitsIn
 bits-at n s from bs u h =
     let o = bits-exact n .only bs (drop from s) u h in
-    let len : length bs ≡ n = o .0 in
-    eq-tabulate n (λ j. ofByte (getD s (from + (n - 1 - j)) 0)) bs Zero len (λ j l.
-    let i : ℕ = n - 1 - j in
-    let m : length bs - 1 - j ≡ i = omega arith in
-    let e : getD s (from + i) 0 ≡ bitByte (getD (reverse bs) i Zero) =
-    sym (getD-drop from s i 0)
-    ∙ ap (λ (z : List ℕ). getD z i 0) (o .1 ∙ append-assoc (texts bitText (reverse bs)) lineEnd u)
-    ∙ byte-at (reverse bs) (lineEnd ++ u) i (omega (arith, length-reverse bs))
+    let e : take n (drop from s) ≡ take (length (reverse bs)) (texts bitText (reverse bs) ++ (lineEnd ++ u)) =
+    ap₂ (λ (k : ℕ) (l : List ℕ). take k l) (sym (length-reverse bs ∙ o .0)) (o .1 ∙ append-assoc (texts bitText (reverse bs)) lineEnd u)
     in
-    sym (getD-reverse bs j (omega arith))
-    ∙ ap (λ (k : ℕ). getD (reverse bs) k Zero) m
-    ∙ sym (of-byte (getD (reverse bs) i Zero))
-    ∙ ap ofByte (sym e))
+    sym (ap (λ (l : List ℕ). reverse (map ofByte l)) e ∙ ap reverse (bytes-read (reverse bs) (lineEnd ++ u)) ∙ reverse-reverse bs)

@@ -1,8 +1,9 @@
 -- What the code answers for a reader's answer in the text s: a place of s instead of the text from there on.
 use Prim.Native.Nat.{ℕ, _-_}
-use mathlib.Core.List.{List}
-use lib.ListN.{length}
-use Rattle.text.specs.Read.{Got, found, broken}
+use mathlib.Core.List.{List, map, reverse}
+use lib.ListN.{length, take, drop}
+use Rattle.bit.specs.declared.LogicBit.{LogicBit}
+use Rattle.text.specs.Read.{Got, found, broken, ofByte}
 use Rattle.text.specs.declared.Place.{Place}
 use Rattle.text.specs.declared.Place.the-variants.{At, Absent}
 use Rattle.text.specs.declared.Line.{Line}
@@ -22,3 +23,7 @@ lineIn s broken = Broken
 abbrev pub firstLine : Line → Line → Line
 firstLine (Number v i) other = Number v i
 firstLine Broken other = other
+
+-- the vector whose bits are the n characters from a place on, highest bit first
+unfoldable pub bitsIn : List ℕ → ℕ → ℕ → List LogicBit
+bitsIn s from n = reverse (map ofByte (take n (drop from s)))

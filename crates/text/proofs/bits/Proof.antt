@@ -7,7 +7,7 @@ use lib.ListN.{drop, getD}
 use Rattle.bit.specs.declared.LogicBit.{LogicBit}
 use Rattle.text.specs.Read.{many, lineEnd, key, ofByte, bit, bits}
 use Rattle.text.proofs.Places.{place-made}
-use Rattle.text.proofs.Turns.{behind, behind-none, bits-done, bits-ends, bits-other, bits-bit}
+use Rattle.text.proofs.Turns.{behind, behind-none, many-done, bits-ends, bits-other, bits-bit}
 use borrow.Author.Needs.{needs}
 use Rattle.text.proofs.bits.Statement.{statement}
 use Rattle.text.proofs.bits.Tie as tie
@@ -79,7 +79,7 @@ unfolding bits
 returns-3 c =
     let l = c .before .before .before in
     let bs = l .loop .inv .0 in
-    rw (left-as l 0 (omega arith), bits-done) (c .skip .ensures ∙ sym (place-made (s l) (key lineEnd (drop (l .loop .i) (s l))) (reverse bs)))
+    rw (left-as l 0 (omega arith), many-done) (c .skip .ensures ∙ sym (place-made (s l) (key lineEnd (drop (l .loop .i) (s l))) (reverse bs)))
 
 pub bits-spec : {M : Type 1} → statement M
 bits-spec =

@@ -1,0 +1,204 @@
+-- Document 01, "Step list": what a text says as a step list, the text of a list, and that the two agree. Lines in fixed order, each ended by
+-- one LF; a text is a list of bytes.
+use Prim.Native.Nat.{ℕ, _≤_}
+use mathlib.Core.Path.{_≡_}
+use mathlib.Core.Logic.{_↔_}
+use mathlib.Core.Bool.{true, false, _&&_, cond}
+use mathlib.Core.List.{List, [], _∷_, _++_, map}
+use lib.Dec.{leb, ltb}
+use lib.ListN.{length, getD}
+use Rattle.bit.specs.declared.LogicBit.{LogicBit}
+use Rattle.refusal.specs.Outcome.{Answer}
+use Rattle.refusal.specs.Outcome.Answer.{given, refused}
+use Rattle.text.specs.Read.{Got, next, lineEnd, key, numberLine, oneOf, bitsLine, many}
+use Rattle.text.specs.Read.Got.{found, broken}
+use Rattle.text.specs.Write.{texts, numberText, bitsText}
+use Rattle.text.specs.Exact.{All}
+use Rattle.value.specs.declared.Header.{Header}
+use Rattle.value.specs.Checks.{Vector}
+use Rattle.ops.specs.declared.Op.{Op}
+use Rattle.ops.specs.declared.Op.the-variants.{And, Or, Xor, Not, Merge, ReduceAnd, ReduceOr, ReduceXor, Equal, CaseEqual, CasezEqual, CasexEqual, WildcardEqual, LogicAnd, LogicOr, Select, Insert}
+use Rattle.ops.specs.declared.Kind.{Kind}
+use Rattle.ops.specs.declared.Kind.the-variants as kind
+use Rattle.ops.specs.declared.Step.{Step}
+use Rattle.ops.specs.Ops.{kindOf, questionOperands}
+
+-- a list: its inputs and its steps, in order
+pub record StepList : Type 0 where
+  pub inputs : List Vector
+  pub steps : List Step
+
+-- ---- a line of a key and one of several names
+
+-- the name's number, from 0
+unfoldable pub nameLine : List ℕ → List (List ℕ) → List ℕ → Got ℕ
+nameLine k names t = next (key k t) (λ x. oneOf names 0)
+
+-- the value of l that has the name; d is what a number past the end would read, and none is
+unfoldable pub choiceLine : {A : Type 0} → List ℕ → (A → List ℕ) → List A → A → List ℕ → Got A
+choiceLine k name l d t = next (nameLine k (map name l) t) (λ n. found (getD l n d))
+
+-- ---- an input: width=, kind=, bits=
+
+-- `width=`
+abbrev pub widthKey : List ℕ
+widthKey = 119 ∷ 105 ∷ 100 ∷ 116 ∷ 104 ∷ 61 ∷ []
+
+-- `kind=`
+abbrev pub kindKey : List ℕ
+kindKey = 107 ∷ 105 ∷ 110 ∷ 100 ∷ 61 ∷ []
+
+-- `bits=`
+abbrev pub bitsKey : List ℕ
+bitsKey = 98 ∷ 105 ∷ 116 ∷ 115 ∷ 61 ∷ []
+
+-- unsigned, signed, unsigned fill
+pub data Marks : Type 0 where
+  unsigned : Marks
+  signed : Marks
+  fill : Marks
+
+abbrev pub allMarks : List Marks
+allMarks = unsigned ∷ signed ∷ fill ∷ []
+
+-- u, s, f
+abbrev pub marksName : Marks → List ℕ
+marksName unsigned = 117 ∷ []
+marksName signed = 115 ∷ []
+marksName fill = 102 ∷ []
+
+abbrev pub marked : ℕ → Marks → Header
+marked w unsigned = record { width = w; «is_signed» = false; «is_fill» = false }
+marked w signed = record { width = w; «is_signed» = true; «is_fill» = false }
+marked w fill = record { width = w; «is_signed» = false; «is_fill» = true }
+
+abbrev pub marksOf : Header → Marks
+marksOf h = cond (h .«is_fill») fill (cond (h .«is_signed») signed unsigned)
+
+-- width= 0 to 4,096, kind=, bits= exactly that many of 0 1 x z
+unfoldable pub input : List ℕ → Got Vector
+input t =
+    next (numberLine widthKey 4096 t) (λ w t.
+    next (choiceLine kindKey marksName allMarks unsigned t) (λ m t.
+    next (bitsLine bitsKey w t) (λ bs.
+    found (record { header = marked w m; bits = bs }))))
+
+unfoldable pub inputText : Vector → List ℕ
+inputText x =
+    (widthKey ++ numberText (x .header .width)) ++ ((kindKey ++ (marksName (marksOf (x .header)) ++ lineEnd)) ++ (bitsKey ++ bitsText (x .bits)))
+
+-- as many bits as the width says, which is at most 4,096; no fill is signed
+unfoldable pub InputWithin : Vector → Type 0
+InputWithin x = (x .header .width ≤ 4096) × (length (x .bits) ≡ x .header .width) × ((x .header .«is_signed» && x .header .«is_fill») ≡ false)
+
+-- ---- a step: op=, a=, b=, c=
+
+-- `op=`
+abbrev pub opKey : List ℕ
+opKey = 111 ∷ 112 ∷ 61 ∷ []
+
+-- `a=`
+abbrev pub aKey : List ℕ
+aKey = 97 ∷ 61 ∷ []
+
+-- `b=`
+abbrev pub bKey : List ℕ
+bKey = 98 ∷ 61 ∷ []
+
+-- `c=`
+abbrev pub cKey : List ℕ
+cKey = 99 ∷ 61 ∷ []
+
+abbrev pub allOps : List Op
+allOps = And ∷ Or ∷ Xor ∷ Not ∷ Merge ∷ ReduceAnd ∷ ReduceOr ∷ ReduceXor ∷ Equal ∷ CaseEqual ∷ CasezEqual ∷ CasexEqual ∷ WildcardEqual ∷ LogicAnd ∷ LogicOr ∷ Select ∷ Insert ∷ []
+
+-- and, or, xor, not, mrg, rand, ror, rxor, eq, ceq, cz, cx, weq, land, lor, sel, ins
+abbrev pub opName : Op → List ℕ
+opName And = 97 ∷ 110 ∷ 100 ∷ []
+opName Or = 111 ∷ 114 ∷ []
+opName Xor = 120 ∷ 111 ∷ 114 ∷ []
+opName Not = 110 ∷ 111 ∷ 116 ∷ []
+opName Merge = 109 ∷ 114 ∷ 103 ∷ []
+opName ReduceAnd = 114 ∷ 97 ∷ 110 ∷ 100 ∷ []
+opName ReduceOr = 114 ∷ 111 ∷ 114 ∷ []
+opName ReduceXor = 114 ∷ 120 ∷ 111 ∷ 114 ∷ []
+opName Equal = 101 ∷ 113 ∷ []
+opName CaseEqual = 99 ∷ 101 ∷ 113 ∷ []
+opName CasezEqual = 99 ∷ 122 ∷ []
+opName CasexEqual = 99 ∷ 120 ∷ []
+opName WildcardEqual = 119 ∷ 101 ∷ 113 ∷ []
+opName LogicAnd = 108 ∷ 97 ∷ 110 ∷ 100 ∷ []
+opName LogicOr = 108 ∷ 111 ∷ 114 ∷ []
+opName Select = 115 ∷ 101 ∷ 108 ∷ []
+opName Insert = 105 ∷ 110 ∷ 115 ∷ []
+
+-- how many of a, b and c an op uses, the first ones: the cells that it names, and the position of insert
+abbrev pub kindUses : Kind → ℕ
+kindUses (kind.Join j) = 2
+kindUses kind.Not = 1
+kindUses (kind.Answer q) = questionOperands q
+kindUses kind.Select = 3
+kindUses kind.Insert = 3
+
+abbrev pub uses : Op → ℕ
+uses op = kindUses (kindOf op)
+
+-- the largest number that the i-th of a, b and c may be, from 0: an unused one is 0
+abbrev pub largest : Op → ℕ → ℕ
+largest op i = cond (ltb i (uses op)) 4294967295 0
+
+unfoldable pub step : List ℕ → Got Step
+step t =
+    next (choiceLine opKey opName allOps And t) (λ o t.
+    next (numberLine aKey (largest o 0) t) (λ a t.
+    next (numberLine bKey (largest o 1) t) (λ b t.
+    next (numberLine cKey (largest o 2) t) (λ c.
+    found (record { op = o; a = a; b = b; c = c })))))
+
+unfoldable pub stepText : Step → List ℕ
+stepText x =
+    (opKey ++ (opName (x .op) ++ lineEnd)) ++ ((aKey ++ numberText (x .a)) ++ ((bKey ++ numberText (x .b)) ++ (cKey ++ numberText (x .c))))
+
+unfoldable pub StepWithin : Step → Type 0
+StepWithin x = (x .a ≤ largest (x .op) 0) × (x .b ≤ largest (x .op) 1) × (x .c ≤ largest (x .op) 2)
+
+-- ---- the whole list: inputs=, steps=, then the inputs, then the steps
+
+-- `inputs=`
+abbrev pub inputsKey : List ℕ
+inputsKey = 105 ∷ 110 ∷ 112 ∷ 117 ∷ 116 ∷ 115 ∷ 61 ∷ []
+
+-- `steps=`
+abbrev pub stepsKey : List ℕ
+stepsKey = 115 ∷ 116 ∷ 101 ∷ 112 ∷ 115 ∷ 61 ∷ []
+
+-- inputs= 0 to 64, steps= 0 to 256
+unfoldable pub list : List ℕ → Got StepList
+list t =
+    next (numberLine inputsKey 64 t) (λ n t.
+    next (numberLine stepsKey 256 t) (λ m t.
+    next (many input n t) (λ is t.
+    next (many step m t) (λ ss.
+    found (record { inputs = is; steps = ss })))))
+
+unfoldable pub listText : StepList → List ℕ
+listText l =
+    (inputsKey ++ numberText (length (l .inputs)))
+    ++ ((stepsKey ++ numberText (length (l .steps))) ++ (texts inputText (l .inputs) ++ texts stepText (l .steps)))
+
+unfoldable pub Within : StepList → Type 0
+Within l = (length (l .inputs) ≤ 64) × (length (l .steps) ≤ 256) × All InputWithin (l .inputs) × All StepWithin (l .steps)
+
+-- nothing follows; 6 where the format is broken
+abbrev pub ended : Got StepList → Answer StepList
+ended (found l []) = given l
+ended (found l (c ∷ t)) = refused 6
+ended broken = refused 6
+
+-- at most 65,536 bytes
+unfoldable pub whole : List ℕ → Answer StepList
+whole t = cond (leb (length t) 65536) (ended (list t)) (refused 6)
+
+-- a text is accepted as the list l exactly where it is l's text, l is within the limits and the text is not too long
+pub WholeExactly : Type 0
+WholeExactly = (t : List ℕ) (l : StepList) → (whole t ≡ given l) ↔ ((t ≡ listText l) × Within l × (length t ≤ 65536))
