@@ -200,5 +200,5 @@ unfoldable pub whole : List ℕ → Answer StepList
 whole t = cond (leb (length t) 65536) (ended (list t)) (refused 6)
 
 -- a text is accepted as the list l exactly where it is l's text, l is within the limits and the text is not too long
-pub WholeExactly : Type 0
+abbrev pub WholeExactly : Type 0
 WholeExactly = (t : List ℕ) (l : StepList) → (whole t ≡ given l) ↔ ((t ≡ listText l) × Within l × (length t ≤ 65536))

@@ -1,0 +1,217 @@
+-- The readers of a step list accept its text, within the limits, and no other text.
+--     name-exact, choice-exact     a line of a key and one of several names
+--     input-exact, step-exact, list-exact     an input, a step, all lines of a list
+--     whole-exactly     a whole text
+use mathlib.Core.Path.{_≡_, refl, sym, ap, ap₂, _∙_, subst, subst⁻¹}
+use mathlib.Core.Bool.{Bool, true, false, _&&_, cond}
+use mathlib.Core.List.{List, [], _∷_, _++_, map, append-nil}
+use Prim.Native.Nat.{ℕ, zero, suc, _≤_, _<_}
+use native.Mathlib.Omega.{arith}
+use lib.Dec.{leb}
+use lib.ListN.{length, getD, length-map}
+use borrow.Author.Tests.{le-leb, leb-true}
+use Rattle.bit.specs.declared.LogicBit.{LogicBit}
+use Rattle.refusal.specs.Outcome.Answer.{given, refused}
+use Rattle.text.specs.Read.{Got, next, lineEnd, numberLine, oneOf, bitsLine, many}
+use Rattle.text.specs.Read.Got.{found, broken}
+use Rattle.text.specs.Write.{nameText, texts, numberText, bitsText}
+use Rattle.text.specs.Exact.{Exact, All}
+use Rattle.text.proofs.Exact.{next-found, next-exact, limit-exact, after-key, many-exact}
+use Rattle.text.proofs.Decimal.{line-exact}
+use Rattle.text.proofs.Names.{distinct, oneOf-exact}
+use Rattle.text.proofs.Vectors.{bitsLine-exact}
+use Rattle.value.specs.declared.Header.{Header}
+use Rattle.value.specs.Checks.{Vector}
+use Rattle.ops.specs.declared.Op.{Op}
+use Rattle.ops.specs.declared.Op.the-variants.{And, Or, Xor, Not, Merge, ReduceAnd, ReduceOr, ReduceXor, Equal, CaseEqual, CasezEqual, CasexEqual, WildcardEqual, LogicAnd, LogicOr, Select, Insert}
+use Rattle.ops.specs.declared.Step.{Step}
+use Rattle.steplist.specs.Listing.{StepList, nameLine, choiceLine, Marks, unsigned, signed, fill, allMarks, marksName, marked, marksOf, widthKey, kindKey, bitsKey}
+use Rattle.steplist.specs.Listing.{input, inputText, InputWithin, opKey, aKey, bKey, cKey, allOps, opName, largest, step, stepText, StepWithin}
+use Rattle.steplist.specs.Listing.{inputsKey, stepsKey, list, listText, Within, ended, whole, WholeExactly}
+
+-- ---- a value made of what was read last
+
+-- g finds what was read in the value that f makes of it
+made-of : {A B : Type 0} {r : List ℕ → Got A} {w : A → List ℕ} {P : A → Type 0} {Q : B → Type 0} (f : A → B) (g : B → A)
+    → Exact r w P → ((a : A) (b : B) → b ≡ f a → (g b ≡ a) × Q b) → ((b : B) → Q b → b ≡ f (g b))
+    → Exact (λ t. next (r t) (λ a. found (f a))) (λ b. w (g b)) (λ b. P (g b) × Q b)
+made-of {A} {B} {r} {w} {P} f g x there back = record {
+  accepts = λ b t p.
+      ap (λ z. next z (λ a. found (f a))) (x .accepts (g b) t (p .0)) ∙ ap (λ (z : B). found z t) (sym (back b (p .1)));
+  only = λ b t u h.
+      let n = next-found (r t) (λ a. found (f a)) b u h in
+      let a : A = n .0 in
+      let e : b ≡ f a = cc (n .3) in
+      let q : n .1 ≡ u = cc (n .3) in
+      let m = there a b e in
+      let o = x .only a t (n .1) (n .2) in
+      ((rw (m .0) (o .0), m .1), o .1 ∙ ap (λ (z : List ℕ). w a ++ z) q ∙ ap (λ (z : A). w z ++ u) (sym (m .0)));
+}
+
+-- ---- one of several names
+
+pub name-exact : (k : List ℕ) (names : List (List ℕ)) → distinct names ≡ true → Exact (nameLine k names) (λ n. k ++ nameText names n) (λ n. n < length names)
+unfolding nameLine
+name-exact k names d = after-key k (oneOf-exact names d)
+
+name-at : {A : Type 0} (name : A → List ℕ) (l : List A) (d : A) (n : ℕ) → n < length l → getD (map name l) n [] ≡ name (getD l n d)
+name-at name [] d n h = absurd (omega arith)
+name-at name (a ∷ l) d zero h = refl
+name-at name (a ∷ l) d (suc n) h = name-at name l d n (omega arith)
+
+-- every value stands in the list
+pub choice-exact : {A : Type 0} (k : List ℕ) (name : A → List ℕ) (l : List A) (d : A) → distinct (map name l) ≡ true
+    → ((a : A) → (n : ℕ) × (n < length l) × (getD l n d ≡ a))
+    → Exact (choiceLine k name l d) (λ a. k ++ (name a ++ lineEnd)) (λ a. Unit {0})
+unfolding choiceLine nameText
+choice-exact {A} k name l d e listed = record {
+  accepts = λ a t p.
+      let i = listed a in
+      let n : ℕ = i .0 in
+      let w : getD (map name l) n [] ≡ name a = name-at name l d n (i .1) ∙ ap name (i .2) in
+      ap (λ (z : List ℕ). next (nameLine k (map name l) ((k ++ (z ++ lineEnd)) ++ t)) (λ n. found (getD l n d))) (sym w)
+      ∙ ap (λ z. next z (λ n. found (getD l n d))) (x .accepts n t (rw (length-map l name) (i .1)))
+      ∙ ap (λ (z : A). found z t) (i .2);
+  only = λ a t u h.
+      let f = next-found (nameLine k (map name l) t) (λ n. found (getD l n d)) a u h in
+      let n : ℕ = f .0 in
+      let o = x .only n t (f .1) (f .2) in
+      let v : getD l n d ≡ a = cc (f .3) in
+      let q : f .1 ≡ u = cc (f .3) in
+      let w : getD (map name l) n [] ≡ name a = name-at name l d n (rw (length-map l name) at (o .0)) ∙ ap name v in
+      (tt, o .1 ∙ ap (λ (z : List ℕ). (k ++ (getD (map name l) n [] ++ lineEnd)) ++ z) q ∙ ap (λ (z : List ℕ). (k ++ (z ++ lineEnd)) ++ u) w);
+}
+  where
+    x : Exact (nameLine k (map name l)) (λ n. k ++ nameText (map name l) n) (λ n. n < length (map name l))
+    x = name-exact k (map name l) e
+
+-- ---- an input
+
+marks-listed : (m : Marks) → (n : ℕ) × (n < 3) × (getD allMarks n unsigned ≡ m)
+marks-listed unsigned = (0, omega arith, refl)
+marks-listed signed = (1, omega arith, refl)
+marks-listed fill = (2, omega arith, refl)
+
+marks-exact : Exact (choiceLine kindKey marksName allMarks unsigned) (λ m. kindKey ++ (marksName m ++ lineEnd)) (λ m. Unit {0})
+marks-exact = choice-exact kindKey marksName allMarks unsigned refl marks-listed
+
+marks-again : (w : ℕ) (m : Marks) → marksOf (marked w m) ≡ m
+marks-again w unsigned = refl
+marks-again w signed = refl
+marks-again w fill = refl
+
+no-signed-fill : (w : ℕ) (m : Marks) → (marked w m .«is_signed» && marked w m .«is_fill») ≡ false
+no-signed-fill w unsigned = refl
+no-signed-fill w signed = refl
+no-signed-fill w fill = refl
+
+width-marked : (w : ℕ) (m : Marks) → marked w m .width ≡ w
+width-marked w unsigned = refl
+width-marked w signed = refl
+width-marked w fill = refl
+
+marked-again : (h : Header) → (h .«is_signed» && h .«is_fill») ≡ false → h ≡ marked (h .width) (marksOf h)
+marked-again h e = go (h .«is_signed») (h .«is_fill») refl refl e
+  where
+    go : (s f : Bool) → h .«is_signed» ≡ s → h .«is_fill» ≡ f → (s && f) ≡ false → h ≡ marked (h .width) (cond f fill (cond s signed unsigned))
+    go true true p q z = let y : _≡_ {A = ℕ} 0 1 = cc in absurd (omega arith)
+    go true false p q z = λ i. record { width = h .width; «is_signed» = p i; «is_fill» = q i }
+    go false true p q z = λ i. record { width = h .width; «is_signed» = p i; «is_fill» = q i }
+    go false false p q z = λ i. record { width = h .width; «is_signed» = p i; «is_fill» = q i }
+
+pub input-exact : Exact input inputText InputWithin
+unfolding input inputText InputWithin
+input-exact =
+    limit-exact (λ x p. (p .0, p .1 .0, p .1 .1)) (λ x p. (p .0, (p .1, p .2)))
+    (next-exact {Q = λ x. (length (x .bits) ≡ x .header .width) × ((x .header .«is_signed» && x .header .«is_fill») ≡ false)}
+    (λ x. x .header .width) (line-exact widthKey 4096) (λ w.
+    limit-exact (λ x p. (p .1 .0, (p .1 .1 ∙ sym (p .1 .0), p .1 .2))) (λ x p. (tt {0}, (p .0, p .1 .0 ∙ p .0, p .1 .1)))
+    (next-exact {Q = λ x. (x .header .width ≡ w) × (length (x .bits) ≡ w) × ((x .header .«is_signed» && x .header .«is_fill») ≡ false)}
+    (λ x. marksOf (x .header)) marks-exact (λ m.
+    limit-exact
+    (λ x p. let e : x .header ≡ marked w m = p .1 in (
+      ap marksOf e ∙ marks-again w m,
+      (ap (λ (h : Header). h .width) e ∙ width-marked w m, p .0, ap (λ (h : Header). h .«is_signed» && h .«is_fill») e ∙ no-signed-fill w m),
+    ))
+    (λ x p. (p .1 .1, marked-again (x .header) (p .1 .2) ∙ ap₂ marked (p .1 .0) (p .0)))
+    (made-of {Q = λ x. x .header ≡ marked w m} (λ bs. record { header = marked w m; bits = bs }) (λ x. x .bits) (bitsLine-exact bitsKey w)
+    (λ bs x e. (ap (λ (y : Vector). y .bits) e, ap (λ (y : Vector). y .header) e))
+    (λ x e. λ i. record { header = e i; bits = x .bits }))))))
+
+-- ---- a step
+
+op-listed : (o : Op) → (n : ℕ) × (n < 17) × (getD allOps n And ≡ o)
+op-listed And = (0, omega arith, refl)
+op-listed Or = (1, omega arith, refl)
+op-listed Xor = (2, omega arith, refl)
+op-listed Not = (3, omega arith, refl)
+op-listed Merge = (4, omega arith, refl)
+op-listed ReduceAnd = (5, omega arith, refl)
+op-listed ReduceOr = (6, omega arith, refl)
+op-listed ReduceXor = (7, omega arith, refl)
+op-listed Equal = (8, omega arith, refl)
+op-listed CaseEqual = (9, omega arith, refl)
+op-listed CasezEqual = (10, omega arith, refl)
+op-listed CasexEqual = (11, omega arith, refl)
+op-listed WildcardEqual = (12, omega arith, refl)
+op-listed LogicAnd = (13, omega arith, refl)
+op-listed LogicOr = (14, omega arith, refl)
+op-listed Select = (15, omega arith, refl)
+op-listed Insert = (16, omega arith, refl)
+
+op-exact : Exact (choiceLine opKey opName allOps And) (λ o. opKey ++ (opName o ++ lineEnd)) (λ o. Unit {0})
+op-exact = choice-exact opKey opName allOps And refl op-listed
+
+-- its numbers are such as the op o may have
+abbrev Numbers : Step → Op → Type 0
+Numbers x o = (x .a ≤ largest o 0) × (x .b ≤ largest o 1) × (x .c ≤ largest o 2)
+
+pub step-exact : Exact step stepText StepWithin
+unfolding step stepText StepWithin
+step-exact =
+    limit-exact (λ x p. p .1) (λ x p. (tt {0}, p))
+    (next-exact {Q = λ x. Numbers x (x .op)} (λ x. x .op) op-exact (λ o.
+    limit-exact (λ x p. (p .1 .0, subst⁻¹ (Numbers x) (p .1 .0) (p .0, p .1 .1, p .1 .2)))
+    (λ x p. let q = subst (Numbers x) (p .0) (p .1) in (q .0, (p .0, q .1, q .2)))
+    (next-exact {Q = λ x. (x .op ≡ o) × (x .b ≤ largest o 1) × (x .c ≤ largest o 2)} (λ x. x .a) (line-exact aKey (largest o 0)) (λ a.
+    limit-exact (λ x p. (p .1 .1, (p .1 .0, p .0, p .1 .2))) (λ x p. (p .1 .1, (p .1 .0, p .0, p .1 .2)))
+    (next-exact {Q = λ x. (x .op ≡ o) × (x .a ≡ a) × (x .c ≤ largest o 2)} (λ x. x .b) (line-exact bKey (largest o 1)) (λ b.
+    limit-exact (λ x p. (p .1 .2, (p .1 .0, p .1 .1, p .0))) (λ x p. (p .1 .2, (p .1 .0, p .1 .1, p .0)))
+    (made-of {Q = λ x. (x .op ≡ o) × (x .a ≡ a) × (x .b ≡ b)} (λ c. record { op = o; a = a; b = b; c = c }) (λ x. x .c) (line-exact cKey (largest o 2))
+    (λ c x e. (ap (λ (y : Step). y .c) e, (ap (λ (y : Step). y .op) e, ap (λ (y : Step). y .a) e, ap (λ (y : Step). y .b) e)))
+    (λ x e. λ i. record { op = e .0 i; a = e .1 i; b = e .2 i; c = x .c }))))))))
+
+-- ---- a whole list
+
+pub list-exact : Exact list listText Within
+unfolding list listText Within
+list-exact =
+    limit-exact (λ l p. (p .0, p .1 .0, p .1 .1, p .1 .2)) (λ l p. (p .0, (p .1, p .2, p .3)))
+    (next-exact {Q = λ l. (length (l .steps) ≤ 256) × All InputWithin (l .inputs) × All StepWithin (l .steps)} (λ l. length (l .inputs)) (line-exact inputsKey 64) (λ n.
+    limit-exact (λ l p. (p .1 .0, (p .0, p .1 .1, p .1 .2))) (λ l p. (p .1 .0, (p .0, p .1 .1, p .1 .2)))
+    (next-exact {Q = λ l. (length (l .inputs) ≡ n) × All InputWithin (l .inputs) × All StepWithin (l .steps)} (λ l. length (l .steps)) (line-exact stepsKey 256) (λ m.
+    limit-exact (λ l p. (p .1 .0, (p .0 .0, p .0 .1, p .1 .1))) (λ l p. ((p .1 .0, p .1 .1), (p .0, p .1 .2)))
+    (next-exact {Q = λ l. (length (l .steps) ≡ m) × All StepWithin (l .steps)} (λ l. l .inputs) (many-exact n input-exact) (λ is.
+    limit-exact (λ l p. (p .1, p .0)) (λ l p. (p .1, p .0))
+    (made-of {Q = λ l. l .inputs ≡ is} (λ ss. record { inputs = is; steps = ss }) (λ l. l .steps) (many-exact m step-exact)
+    (λ ss l e. (ap (λ (y : StepList). y .steps) e, ap (λ (y : StepList). y .inputs) e))
+    (λ l e. λ i. record { inputs = e i; steps = l .steps }))))))))
+
+pub whole-exactly : WholeExactly
+unfolding whole
+whole-exactly t l = (there (leb (length t) 65536) refl, back)
+  where
+    ended-given : (g : Got StepList) → list t ≡ g → ended g ≡ given l → (t ≡ listText l) × Within l
+    ended-given (found k []) e h =
+        let q : k ≡ l = cc in
+        let o = list-exact .only l t [] (e ∙ ap (λ (z : StepList). found z []) q) in
+        (o .1 ∙ append-nil (listText l), o .0)
+    ended-given (found k (c ∷ u)) e h = let z : _≡_ {A = ℕ} 0 1 = cc in absurd (omega arith)
+    ended-given broken e h = let z : _≡_ {A = ℕ} 0 1 = cc in absurd (omega arith)
+
+    there : (b : Bool) → leb (length t) 65536 ≡ b → cond b (ended (list t)) (refused 6) ≡ given l → (t ≡ listText l) × Within l × (length t ≤ 65536)
+    there true e h = let r = ended-given (list t) refl h in (r .0, r .1, leb-true (length t) 65536 e)
+    there false e h = let z : _≡_ {A = ℕ} 0 1 = cc in absurd (omega arith)
+
+    back : (t ≡ listText l) × Within l × (length t ≤ 65536) → cond (leb (length t) 65536) (ended (list t)) (refused 6) ≡ given l
+    back p = rw (le-leb (length t) 65536 (p .2)) (rw (p .0 ∙ sym (append-nil (listText l)), list-exact .accepts l [] (p .1)) refl)
