@@ -26,7 +26,7 @@ use Rattle.ops.specs.declared.Op.{Op}
 use Rattle.ops.specs.declared.Op.the-variants.{And, Or, Xor, Not, Merge, ReduceAnd, ReduceOr, ReduceXor, Equal, CaseEqual, CasezEqual, CasexEqual, WildcardEqual, LogicAnd, LogicOr, Select, Insert}
 use Rattle.ops.specs.declared.Step.{Step}
 use Rattle.steplist.specs.Listing.{StepList, nameLine, choiceLine, Marks, unsigned, signed, fill, allMarks, marksName, marked, marksOf, widthKey, kindKey, bitsKey}
-use Rattle.steplist.specs.Listing.{input, inputText, InputWithin, opKey, aKey, bKey, cKey, allOps, opName, largest, step, stepText, StepWithin}
+use Rattle.steplist.specs.Listing.{input, inputText, InputWithin, opKey, aKey, bKey, cKey, allOps, opName, largest, numbers, step, stepText, StepWithin}
 use Rattle.steplist.specs.Listing.{inputsKey, stepsKey, list, listText, Within, ended, whole, WholeExactly}
 
 -- ---- a value made of what was read last
@@ -167,7 +167,7 @@ abbrev Numbers : Step → Op → Type 0
 Numbers x o = (x .a ≤ largest o 0) × (x .b ≤ largest o 1) × (x .c ≤ largest o 2)
 
 pub step-exact : Exact step stepText StepWithin
-unfolding step stepText StepWithin
+unfolding step numbers stepText StepWithin
 step-exact =
     limit-exact (λ x p. p .1) (λ x p. (tt {0}, p))
     (next-exact {Q = λ x. Numbers x (x .op)} (λ x. x .op) op-exact (λ o.

@@ -1,17 +1,26 @@
 -- What the code's answers say of the text that they were read from: the bits of an input stay in the text, at its place.
 use Prim.Native.Nat.{ℕ}
 use mathlib.Core.List.{List, map}
-use lib.ListN.{take}
-use Rattle.refusal.specs.Outcome.{Answer}
-use Rattle.refusal.specs.Outcome.Answer.{given, refused}
-use Rattle.refusal.specs.Refusals.{refusalNumber}
+use lib.ListN.{take, drop}
+use Rattle.refusal.specs.Outcome.{Answer, verdict, after}
+use Rattle.refusal.specs.Outcome.Answer.{given}
+use Rattle.text.specs.Read.{Got}
+use Rattle.text.specs.Read.Got.{found, broken}
 use Rattle.text.specs.Answers.{bitsIn}
+use Rattle.text.specs.declared.Place.{Place}
+use Rattle.text.specs.declared.Place.the-variants.{At, Absent}
 use Rattle.value.specs.Checks.{Vector}
+use Rattle.ops.specs.declared.Step.{Step}
 use Rattle.steplist.specs.Listing.{StepList}
 use Rattle.steplist.specs.declared.Input.{Input}
 use Rattle.steplist.specs.declared.StepList as code
+use Rattle.steplist.specs.declared.InputRead.{InputRead}
+use Rattle.steplist.specs.declared.InputRead.the-variants as input-read
+use Rattle.steplist.specs.declared.InputsRead.{InputsRead}
+use Rattle.steplist.specs.declared.StepRead.{StepRead}
+use Rattle.steplist.specs.declared.StepRead.the-variants as step-read
+use Rattle.steplist.specs.declared.StepsRead.{StepsRead}
 use Rattle.steplist.specs.declared.ListAnswer.{ListAnswer}
-use Rattle.steplist.specs.declared.ListAnswer.the-variants as list-answer
 
 -- an input's bits are the characters of its width from its place on
 abbrev pub inputIn : List ℕ → Input → Vector
@@ -21,7 +30,27 @@ inputIn s x = record { header = x .header; bits = bitsIn s (x .place) (x .header
 abbrev pub listIn : List ℕ → code.StepList → StepList
 listIn s l = record { inputs = map (inputIn s) (take (l .«input_count») (l .inputs)); steps = take (l .«step_count») (l .steps) }
 
--- the answer in the paper's numbers
+-- the verdict in the paper's numbers; the list counts where it is accepted
 abbrev pub listAnswer : List ℕ → ListAnswer → Answer StepList
-listAnswer s (list-answer.List l) = given (listIn s l)
-listAnswer s (list-answer.Refused r) = refused (refusalNumber r)
+listAnswer s r = after (verdict (r .verdict)) (given (listIn s (r .list)))
+
+-- ---- the parts of a list, each with the text behind it
+
+abbrev pub inputGot : List ℕ → InputRead → Got Vector
+inputGot s (input-read.Found x i) = found (inputIn s x) (drop i s)
+inputGot s input-read.Broken = broken
+
+abbrev pub stepGot : List ℕ → StepRead → Got Step
+stepGot s (step-read.Found x i) = found x (drop i s)
+stepGot s step-read.Broken = broken
+
+-- a, where the text goes on at the place
+abbrev pub gotAt : {A : Type 0} → List ℕ → A → Place → Got A
+gotAt s a (At i) = found a (drop i s)
+gotAt s a Absent = broken
+
+abbrev pub inputsGot : List ℕ → ℕ → InputsRead → Got (List Vector)
+inputsGot s n r = gotAt s (map (inputIn s) (take n (r .inputs))) (r .next)
+
+abbrev pub stepsGot : List ℕ → ℕ → StepsRead → Got (List Step)
+stepsGot s n r = gotAt s (take n (r .steps)) (r .next)

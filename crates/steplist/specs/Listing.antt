@@ -147,13 +147,16 @@ uses op = kindUses (kindOf op)
 abbrev pub largest : Op → ℕ → ℕ
 largest op i = cond (ltb i (uses op)) 4294967295 0
 
-unfoldable pub step : List ℕ → Got Step
-step t =
-    next (choiceLine opKey opName allOps And t) (λ o t.
+-- the numbers of a step with the op o
+unfoldable pub numbers : Op → List ℕ → Got Step
+numbers o t =
     next (numberLine aKey (largest o 0) t) (λ a t.
     next (numberLine bKey (largest o 1) t) (λ b t.
     next (numberLine cKey (largest o 2) t) (λ c.
-    found (record { op = o; a = a; b = b; c = c })))))
+    found (record { op = o; a = a; b = b; c = c }))))
+
+unfoldable pub step : List ℕ → Got Step
+step t = next (choiceLine opKey opName allOps And t) numbers
 
 unfoldable pub stepText : Step → List ℕ
 stepText x =

@@ -1,15 +1,32 @@
-// A step list, read whole and strictly.
+// A step list, read whole and strictly: the inputs with the places of their bits in the text, and the steps.
+use ops::Kind;
+use ops::Op;
 use ops::Step;
 use refusal::Refusal;
+use refusal::Verdict;
+use text::Line;
+use text::Place;
 use value::Header;
+ghost use mathlib.Core.Path.{_≡_};
+ghost use mathlib.Core.List.{map};
+ghost use Prim.Native.Nat.{_≤_, _<_};
+ghost use lib.ListN.{drop, getD};
+ghost use Rattle.refusal.specs.declared.Refusal.the-variants.{BadFormat};
+ghost use Rattle.refusal.specs.declared.Verdict.the-variants.{Refused};
+ghost use Rattle.ops.specs.declared.Op.the-variants.{And};
+ghost use Rattle.text.specs.Read.{oneOf, many};
+ghost use Rattle.text.specs.Answers.{lineIn};
+ghost use Rattle.steplist.specs.Listing.{nameLine, kindKey, marksName, allMarks, input, opKey, opName, allOps};
+ghost use Rattle.steplist.specs.Listing.{uses as usesOf, largest as largestOf, numbers, step, whole};
+ghost use Rattle.steplist.specs.Answers.{inputGot, inputsGot, stepGot, stepsGot, listAnswer};
 
-// An input: its header, and the place in the text where its bits stand.
+// An input: its header, and the place in the text where its bits stand, highest first.
 pub struct Input {
     pub header: Header,
     pub place: usize,
 }
 
-// The first input_count inputs and the first step_count steps are those of the list.
+// The list has the first input_count inputs and the first step_count steps.
 pub struct StepList {
     pub inputs: [Input; 64],
     pub input_count: usize,
@@ -17,8 +34,306 @@ pub struct StepList {
     pub step_count: usize,
 }
 
-// The list that a text says, or why it says none.
-pub enum ListAnswer {
-    List(StepList),
-    Refused(Refusal),
+// Whether a text says a list, and the list; a refusal comes with an empty one.
+pub struct ListAnswer {
+    pub verdict: Verdict,
+    pub list: StepList,
+}
+
+enum InputRead {
+    Found(Input, usize),
+    Broken,
+}
+
+// The inputs, and the place behind them if they are as they should be.
+struct InputsRead {
+    inputs: [Input; 64],
+    next: Place,
+}
+
+enum StepRead {
+    Found(Step, usize),
+    Broken,
+}
+
+// The steps, and the place behind them if they are as they should be.
+struct StepsRead {
+    steps: [Step; 256],
+    next: Place,
+}
+
+const NO_INPUT: Input = Input {
+    header: Header {
+        width: 0,
+        is_signed: false,
+        is_fill: false,
+    },
+    place: 0,
+};
+
+const NO_STEP: Step = Step {
+    op: Op::And,
+    a: 0,
+    b: 0,
+    c: 0,
+};
+
+// The line kind=, as the number of u, s or f.
+fn kind_line(s: &[u8], at: usize) -> Line
+    ensures { λ r. ⌜ r ≡ lineIn (now (s .entry)) (nameLine kindKey (map marksName allMarks) (drop at (now (s .entry)))) ⌝ }
+{
+    let Place::At(i) = text::skip(s, at, b"kind=") else {
+        return Line::Broken;
+    };
+    let fill = text::named(s, i, b"f", 2, Line::Broken);
+    let signed = text::named(s, i, b"s", 1, fill);
+    text::named(s, i, b"u", 0, signed)
+}
+
+// The three lines of an input.
+fn read_input(s: &[u8], at: usize) -> InputRead
+    ensures { λ r. ⌜ inputGot (now (s .entry)) r ≡ input (drop at (now (s .entry))) ⌝ }
+{
+    let Line::Number(width, i) = text::number_line(s, at, b"width=", 4096) else {
+        return InputRead::Broken;
+    };
+    let Line::Number(kind, j) = kind_line(s, i) else {
+        return InputRead::Broken;
+    };
+    let Place::At(k) = text::bits_line(s, j, b"bits=", width) else {
+        return InputRead::Broken;
+    };
+    let header = Header {
+        width,
+        is_signed: kind == 1,
+        is_fill: kind == 2,
+    };
+    InputRead::Found(
+        Input {
+            header,
+            place: j + 5,
+        },
+        k,
+    )
+}
+
+// n inputs.
+fn read_inputs(s: &[u8], at: usize, n: usize) -> InputsRead
+    requires { ⌜ n ≤ 64 ⌝ }
+    ensures { λ r. ⌜ inputsGot (now (s .entry)) n r ≡ many input n (drop at (now (s .entry))) ⌝ }
+{
+    let mut inputs = [NO_INPUT; 64];
+    let mut i = 0;
+    let mut p = at;
+    while i < n {
+        match read_input(s, p) {
+            InputRead::Found(x, q) => {
+                inputs[i] = x;
+                p = q;
+                i += 1;
+            }
+            InputRead::Broken => {
+                return InputsRead {
+                    inputs,
+                    next: Place::Absent,
+                };
+            }
+        }
+    }
+    InputsRead {
+        inputs,
+        next: Place::At(p),
+    }
+}
+
+// The name of an op, as its number.
+fn op_name(s: &[u8], at: usize) -> Line
+    ensures { λ r. ⌜ r ≡ lineIn (now (s .entry)) (oneOf (map opName allOps) 0 (drop at (now (s .entry)))) ⌝ }
+{
+    let r = text::named(s, at, b"ins", 16, Line::Broken);
+    let r = text::named(s, at, b"sel", 15, r);
+    let r = text::named(s, at, b"lor", 14, r);
+    let r = text::named(s, at, b"land", 13, r);
+    let r = text::named(s, at, b"weq", 12, r);
+    let r = text::named(s, at, b"cx", 11, r);
+    let r = text::named(s, at, b"cz", 10, r);
+    let r = text::named(s, at, b"ceq", 9, r);
+    let r = text::named(s, at, b"eq", 8, r);
+    let r = text::named(s, at, b"rxor", 7, r);
+    let r = text::named(s, at, b"ror", 6, r);
+    let r = text::named(s, at, b"rand", 5, r);
+    let r = text::named(s, at, b"mrg", 4, r);
+    let r = text::named(s, at, b"not", 3, r);
+    let r = text::named(s, at, b"xor", 2, r);
+    let r = text::named(s, at, b"or", 1, r);
+    text::named(s, at, b"and", 0, r)
+}
+
+// The line op=, as the number of the op.
+fn op_line(s: &[u8], at: usize) -> Line
+    ensures { λ r. ⌜ r ≡ lineIn (now (s .entry)) (nameLine opKey (map opName allOps) (drop at (now (s .entry)))) ⌝ }
+{
+    match text::skip(s, at, b"op=") {
+        Place::At(i) => op_name(s, i),
+        Place::Absent => Line::Broken,
+    }
+}
+
+// The op of a number.
+fn op_at(n: usize) -> Op
+    requires { ⌜ n < 17 ⌝ }
+    ensures { λ r. ⌜ r ≡ getD allOps n And ⌝ }
+{
+    let ops = [
+        Op::And,
+        Op::Or,
+        Op::Xor,
+        Op::Not,
+        Op::Merge,
+        Op::ReduceAnd,
+        Op::ReduceOr,
+        Op::ReduceXor,
+        Op::Equal,
+        Op::CaseEqual,
+        Op::CasezEqual,
+        Op::CasexEqual,
+        Op::WildcardEqual,
+        Op::LogicAnd,
+        Op::LogicOr,
+        Op::Select,
+        Op::Insert,
+    ];
+    ops[n]
+}
+
+// How many of a, b and c an op uses.
+fn uses(op: Op) -> usize
+    ensures { λ r. ⌜ r ≡ usesOf op ⌝ }
+{
+    match ops::kind_of(op) {
+        Kind::Join(_) => 2,
+        Kind::Not => 1,
+        Kind::Answer(_) => ops::operand_count(op),
+        Kind::Select => 3,
+        Kind::Insert => 3,
+    }
+}
+
+// The largest number that the i-th of a, b and c may be, from 0: an unused one is 0.
+fn largest(op: Op, i: usize) -> u32
+    ensures { λ r. ⌜ r ≡ largestOf op i ⌝ }
+{
+    if i < uses(op) { 4294967295 } else { 0 }
+}
+
+// The lines a=, b= and c= of a step.
+fn read_numbers(s: &[u8], at: usize, op: Op) -> StepRead
+    ensures { λ r. ⌜ stepGot (now (s .entry)) r ≡ numbers op (drop at (now (s .entry))) ⌝ }
+{
+    let Line::Number(a, i) = text::number_line(s, at, b"a=", largest(op, 0)) else {
+        return StepRead::Broken;
+    };
+    let Line::Number(b, j) = text::number_line(s, i, b"b=", largest(op, 1)) else {
+        return StepRead::Broken;
+    };
+    let Line::Number(c, k) = text::number_line(s, j, b"c=", largest(op, 2)) else {
+        return StepRead::Broken;
+    };
+    StepRead::Found(Step { op, a, b, c }, k)
+}
+
+// The four lines of a step.
+fn read_step(s: &[u8], at: usize) -> StepRead
+    ensures { λ r. ⌜ stepGot (now (s .entry)) r ≡ step (drop at (now (s .entry))) ⌝ }
+{
+    let Line::Number(n, i) = op_line(s, at) else {
+        return StepRead::Broken;
+    };
+    let op = op_at(n as usize);
+    read_numbers(s, i, op)
+}
+
+// n steps.
+fn read_steps(s: &[u8], at: usize, n: usize) -> StepsRead
+    requires { ⌜ n ≤ 256 ⌝ }
+    ensures { λ r. ⌜ stepsGot (now (s .entry)) n r ≡ many step n (drop at (now (s .entry))) ⌝ }
+{
+    let mut steps = [NO_STEP; 256];
+    let mut i = 0;
+    let mut p = at;
+    while i < n {
+        match read_step(s, p) {
+            StepRead::Found(x, q) => {
+                steps[i] = x;
+                p = q;
+                i += 1;
+            }
+            StepRead::Broken => {
+                return StepsRead {
+                    steps,
+                    next: Place::Absent,
+                };
+            }
+        }
+    }
+    StepsRead {
+        steps,
+        next: Place::At(p),
+    }
+}
+
+// 6, with an empty list.
+fn no_list() -> ListAnswer
+    ensures { λ r. ⌜ r .verdict ≡ Refused BadFormat ⌝ }
+{
+    ListAnswer {
+        verdict: Verdict::Refused(Refusal::BadFormat),
+        list: StepList {
+            inputs: [NO_INPUT; 64],
+            input_count: 0,
+            steps: [NO_STEP; 256],
+            step_count: 0,
+        },
+    }
+}
+
+// The list that a text says, or 6 if the text breaks its format or has more than 65,536 bytes.
+pub fn read_list(s: &[u8]) -> ListAnswer
+    ensures { λ r. ⌜ listAnswer (now (s .entry)) r ≡ whole (now (s .entry)) ⌝ }
+{
+    if 65536 < s.len() {
+        return no_list();
+    }
+    let Line::Number(n, i) = text::number_line(s, 0, b"inputs=", 64) else {
+        return no_list();
+    };
+    let Line::Number(m, j) = text::number_line(s, i, b"steps=", 256) else {
+        return no_list();
+    };
+    let input_count = n as usize;
+    let a = read_inputs(s, j, input_count);
+    let inputs = a.inputs;
+    let behind_inputs = a.next;
+    let Place::At(k) = behind_inputs else {
+        return no_list();
+    };
+    let step_count = m as usize;
+    let b = read_steps(s, k, step_count);
+    let steps = b.steps;
+    let behind_steps = b.next;
+    let Place::At(l) = behind_steps else {
+        return no_list();
+    };
+    if l < s.len() {
+        return no_list();
+    }
+    ListAnswer {
+        verdict: Verdict::Accepted,
+        list: StepList {
+            inputs,
+            input_count,
+            steps,
+            step_count,
+        },
+    }
 }
