@@ -1,0 +1,73 @@
+// Planes filled word by word from the characters of a text, highest bit first. A character that is none of 0 1 x z is taken as 0. These ask
+// their caller for a text that has the characters, and for planes of the right length.
+use words::Word;
+ghost use mathlib.Core.Path.{_≡_};
+ghost use Prim.Native.Nat.{_-_, _≤_};
+ghost use lib.ListN.{length};
+ghost use Rattle.words.specs.Vector.{at};
+ghost use Rattle.words.specs.Planes.{wordCount, valueDigit, unknownDigit, packed, lent, planesOf};
+ghost use Rattle.text.specs.Read.{ofByte};
+ghost use Rattle.text.specs.Answers.{bitsIn};
+
+// What the bit of a character stores in each plane.
+fn digits_of(byte: u8) -> Word
+    ensures { λ r. ⌜ r ≡ record { value = valueDigit (ofByte byte); unknown = unknownDigit (ofByte byte) } ⌝ }
+{
+    if byte == 49 {
+        return Word {
+            value: 1,
+            unknown: 0,
+        };
+    }
+    if byte == 120 {
+        return Word {
+            value: 0,
+            unknown: 1,
+        };
+    }
+    if byte == 122 {
+        return Word {
+            value: 1,
+            unknown: 1,
+        };
+    }
+    Word {
+        value: 0,
+        unknown: 0,
+    }
+}
+
+// The word whose lowest bits are the n characters from a place on.
+fn read_word(s: &[u8], from: usize, n: usize) -> Word
+    requires { ⌜ (n ≤ 64) × (n ≤ length (now s) - from) ⌝ }
+    ensures { λ r. ⌜ r ≡ packed (at (bitsIn (now (s .entry)) from n)) ⌝ }
+{
+    let mut value: u64 = 0;
+    let mut unknown: u64 = 0;
+    let mut j = 0;
+    while j < n {
+        let d = digits_of(s[from + j]);
+        value = value * 2 + d.value;
+        unknown = unknown * 2 + d.unknown;
+        j += 1;
+    }
+    Word { value, unknown }
+}
+
+// Writes the planes of the vector whose bits are the `width` characters from a place on.
+pub fn fill_planes(s: &[u8], place: usize, width: u32, value: &mut [u64], unknown: &mut [u64])
+    requires { ⌜ width ≤ length (now s) - place ⌝ }
+    requires { ⌜ (length (now value) ≡ wordCount width) × (length (now unknown) ≡ wordCount width) ⌝ }
+    ensures { λ _. ⌜ lent (now (value .exit)) (now (unknown .exit)) ≡ planesOf (bitsIn (now (s .entry)) place width) ⌝ }
+{
+    let mut left = width as usize;
+    let mut k = 0;
+    while k < value.len() {
+        let n = words::inner::least(64, left);
+        left -= n;
+        let x = read_word(s, place + left, n);
+        value[k] = x.value;
+        unknown[k] = x.unknown;
+        k += 1;
+    }
+}
