@@ -9,7 +9,7 @@ use Prim.Native.Nat.{ℕ, zero, suc, _+_, _-_, _*_, _^_, _≤_, _<_, min}
 use native.Mathlib.Nat.{pow-le-pow-right, lt-of-lt-of-le}
 use native.Mathlib.Numerals.{add-one}
 use native.Mathlib.Omega.{arith}
-use lib.ListN.{length, getD, take, drop, length-reverse, length-map, length-take, length-drop, List·getD-append, List·getD-map, List·getD-eq-default}
+use lib.ListN.{length, getD, take, drop, length-reverse, List·getD-append, List·getD-map, List·getD-eq-default}
 use lib.Seq.{getD-at, getD-take, getD-drop}
 use Rattle.bit.specs.declared.LogicBit.{LogicBit}
 use Rattle.bit.specs.declared.LogicBit.the-variants.{Zero}
@@ -18,6 +18,7 @@ use Rattle.words.specs.Planes.{wordOf}
 use Rattle.words.proofs.Digits.{lt-or-ge, pack-cong, pack-lt, pack-bit, pack-ext, bit-above}
 use Rattle.text.specs.Read.{ofByte}
 use Rattle.text.specs.Answers.{bitsIn}
+use Rattle.text.proofs.Vectors.{bits-length}
 
 -- ---- which character a bit is
 
@@ -34,18 +35,14 @@ getD-reverse {A} (a ∷ l) d (suc j) h =
     ∙ ap (λ (i : ℕ). getD (reverse l) i d) e
     ∙ getD-reverse l d j (omega arith)
 
-length-cut : (s : List ℕ) (from n : ℕ) → length (map ofByte (take n (drop from s))) ≡ min n (length s - from)
-length-cut s from n = length-map (take n (drop from s)) ofByte ∙ length-take n (drop from s) ∙ ap (min n) (length-drop from s)
-
 pub length-in : (s : List ℕ) (from n : ℕ) → n ≤ length s - from → length (bitsIn s from n) ≡ n
-unfolding bitsIn
-length-in s from n h = length-reverse (map ofByte (take n (drop from s))) ∙ length-cut s from n ∙ omega arith
+length-in s from n h = bits-length s from n ∙ omega arith
 
 pub bit-in : (s : List ℕ) (from n i : ℕ) → n ≤ length s - from → i < n → at (bitsIn s from n) i ≡ ofByte (getD s (from + (n - 1 - i)) 0)
 unfolding bitsIn ofByte
 bit-in s from n i h l =
     let cs : List LogicBit = map ofByte (take n (drop from s)) in
-    let e : length cs ≡ n = length-cut s from n ∙ omega arith in
+    let e : length cs ≡ n = sym (length-reverse cs) ∙ length-in s from n h in
     let j : ℕ = n - 1 - i in
     let k : length cs - 1 - j ≡ i = omega arith in
     ap (λ (z : ℕ). getD (reverse cs) z Zero) (sym k)
@@ -54,10 +51,7 @@ bit-in s from n i h l =
     ∙ ap ofByte (getD-take n (drop from s) j 0 (omega arith) ∙ getD-drop from s j 0)
 
 pub bit-past : (s : List ℕ) (from n i : ℕ) → n ≤ i → at (bitsIn s from n) i ≡ Zero
-unfolding bitsIn
-bit-past s from n i h =
-    let e = length-reverse (map ofByte (take n (drop from s))) ∙ length-cut s from n in
-    List·getD-eq-default (reverse (map ofByte (take n (drop from s)))) Zero (omega arith)
+bit-past s from n i h = List·getD-eq-default (bitsIn s from n) Zero (omega (arith, bits-length s from n))
 
 -- ---- the digits d of the first n characters as a number
 

@@ -2,19 +2,21 @@
 --     line-at, line-not     a line with a number, whose limit the code worked out
 --     marked-at, bits-stand      the header and the bits of an input
 --     got-found, got-broken      several inputs or steps, by the place behind them
+--     first-inputs, first-steps      the first elements of an array, one by one
 --     long, no-.., follows, accepted     a whole text, by how far it is read
 use mathlib.Core.Path.{_≡_, refl, sym, ap, _∙_, subst}
 use mathlib.Core.List.{List, [], _∷_, _++_, map}
 use Prim.Native.Nat.{ℕ, zero, suc, _+_, _≤_, _<_}
 use native.Mathlib.Omega.{arith}
 use lib.Dec.{eqb, leb}
-use lib.ListN.{length, drop, getD, drop-of-length-le}
-use lib.Seq.{drop-cons, drop-drop}
+use lib.ListN.{length, take, drop, getD, drop-of-length-le, length-map, List·getD-map}
+use lib.Seq.{drop-cons, drop-drop, length-take-le, getD-take}
 use borrow.Author.Tests.{ne-eqb, le-leb, lt-leb}
 use Rattle.bit.specs.declared.LogicBit.{LogicBit}
 use Rattle.refusal.specs.Outcome.Answer.{given, refused}
 use Rattle.refusal.specs.declared.Refusal.the-variants.{BadFormat}
 use Rattle.refusal.specs.declared.Verdict.the-variants.{Refused}
+use Rattle.words.proofs.Planes.{eq-tabulate}
 use Rattle.text.specs.Read.{Got, key, numberLine, bits, bitsLine, many}
 use Rattle.text.specs.Read.Got.{found, broken}
 use Rattle.text.specs.Answers.{lineIn, bitsIn}
@@ -28,7 +30,8 @@ use Rattle.text.proofs.Places.{line-found, line-broken}
 use Rattle.value.specs.Checks.{Vector}
 use Rattle.ops.specs.declared.Step.{Step}
 use Rattle.steplist.specs.Listing.{StepList, unsigned, allMarks, marked, bitsKey, input, step, inputsKey, stepsKey, list, whole}
-use Rattle.steplist.specs.Answers.{gotAt, listAnswer}
+use Rattle.steplist.specs.Answers.{inputIn, noInput, noStep, inputsIn, stepsIn, gotAt, listAnswer}
+use Rattle.steplist.specs.declared.Input.{Input}
 use Rattle.steplist.specs.declared.ListAnswer.{ListAnswer}
 
 -- ---- a line with a number, m being the limit that stands for n
@@ -70,6 +73,15 @@ got-found s a p i e = rw e
 
 pub got-broken : {A : Type 0} (s : List ℕ) (a : A) (p : Place) → p ≡ Absent → gotAt s a p ≡ broken
 got-broken s a p e = rw e
+
+pub first-inputs : (s : List ℕ) (xs : List Input) (n : ℕ) → n ≤ length xs → map (inputIn s) (take n xs) ≡ inputsIn s n xs
+first-inputs s xs n h =
+    eq-tabulate n (λ i. inputIn s (getD xs i noInput)) (map (inputIn s) (take n xs)) (inputIn s noInput)
+    (length-map (take n xs) (inputIn s) ∙ length-take-le n xs h)
+    (λ i m. List·getD-map (inputIn s) (take n xs) i noInput ∙ ap (inputIn s) (getD-take n xs i noInput m))
+
+pub first-steps : (xs : List Step) (n : ℕ) → n ≤ length xs → take n xs ≡ stepsIn n xs
+first-steps xs n h = eq-tabulate n (λ i. getD xs i noStep) (take n xs) noStep (length-take-le n xs h) (λ i m. getD-take n xs i noStep m)
 
 -- ---- a whole text
 

@@ -1,15 +1,18 @@
 -- What the code's answers say of the text that they were read from: the bits of an input stay in the text, at its place.
 use Prim.Native.Nat.{ℕ}
-use mathlib.Core.List.{List, map}
-use lib.ListN.{take, drop}
+use mathlib.Core.List.{List}
+use lib.ListN.{drop, getD}
 use Rattle.refusal.specs.Outcome.{Answer, verdict, after}
 use Rattle.refusal.specs.Outcome.Answer.{given}
+use Rattle.words.specs.Vector.{tabulate}
 use Rattle.text.specs.Read.{Got}
 use Rattle.text.specs.Read.Got.{found, broken}
 use Rattle.text.specs.Answers.{bitsIn}
 use Rattle.text.specs.declared.Place.{Place}
 use Rattle.text.specs.declared.Place.the-variants.{At, Absent}
 use Rattle.value.specs.Checks.{Vector}
+use Rattle.value.specs.Constructors.{plain}
+use Rattle.ops.specs.declared.Op.the-variants.{And}
 use Rattle.ops.specs.declared.Step.{Step}
 use Rattle.steplist.specs.Listing.{StepList}
 use Rattle.steplist.specs.declared.Input.{Input}
@@ -26,9 +29,22 @@ use Rattle.steplist.specs.declared.ListAnswer.{ListAnswer}
 abbrev pub inputIn : List ℕ → Input → Vector
 inputIn s x = record { header = x .header; bits = bitsIn s (x .place) (x .header .width) }
 
--- the first input_count inputs and the first step_count steps
+-- what a number past the end of an array reads
+abbrev pub noInput : Input
+noInput = record { header = plain 0; place = 0 }
+
+abbrev pub noStep : Step
+noStep = record { op = And; a = 0; b = 0; c = 0 }
+
+-- the first n inputs of an array, and the first n steps
+abbrev pub inputsIn : List ℕ → ℕ → List Input → List Vector
+inputsIn s n xs = tabulate n (λ i. inputIn s (getD xs i noInput))
+
+abbrev pub stepsIn : ℕ → List Step → List Step
+stepsIn n xs = tabulate n (λ i. getD xs i noStep)
+
 abbrev pub listIn : List ℕ → code.StepList → StepList
-listIn s l = record { inputs = map (inputIn s) (take (l .«input_count») (l .inputs)); steps = take (l .«step_count») (l .steps) }
+listIn s l = record { inputs = inputsIn s (l .«input_count») (l .inputs); steps = stepsIn (l .«step_count») (l .steps) }
 
 -- the verdict in the paper's numbers; the list counts where it is accepted
 abbrev pub listAnswer : List ℕ → ListAnswer → Answer StepList
@@ -50,7 +66,7 @@ gotAt s a (At i) = found a (drop i s)
 gotAt s a Absent = broken
 
 abbrev pub inputsGot : List ℕ → ℕ → InputsRead → Got (List Vector)
-inputsGot s n r = gotAt s (map (inputIn s) (take n (r .inputs))) (r .next)
+inputsGot s n r = gotAt s (inputsIn s n (r .inputs)) (r .next)
 
 abbrev pub stepsGot : List ℕ → ℕ → StepsRead → Got (List Step)
-stepsGot s n r = gotAt s (take n (r .steps)) (r .next)
+stepsGot s n r = gotAt s (stepsIn n (r .steps)) (r .next)

@@ -1,13 +1,14 @@
 -- The bits of a vector: what is read is what is written, and where each bit stands in the text.
 --     bits-exact, bitsLine-exact     the readers of exactly n bits, and of a line of them
 --     bits-at       what is read is the vector of those characters
+--     bits-length   it has as many bits as there are characters
 use mathlib.Core.Path.{_≡_, refl, sym, ap, ap₂, _∙_}
 use mathlib.Core.Bool.{Bool, true, false, _||_, cond}
 use mathlib.Core.List.{List, [], _∷_, _++_, append-assoc, map, reverse, reverse-reverse}
-use Prim.Native.Nat.{ℕ}
+use Prim.Native.Nat.{ℕ, _-_, min}
 use native.Mathlib.Omega.{arith}
 use lib.Dec.{eqb}
-use lib.ListN.{length, take, drop, length-reverse}
+use lib.ListN.{length, take, drop, length-reverse, length-map, length-take, length-drop}
 use borrow.Author.Tests.{eqb-true}
 use Rattle.bit.specs.declared.LogicBit.{LogicBit}
 use Rattle.bit.specs.declared.LogicBit.the-variants.{Zero, One, X, Z}
@@ -82,6 +83,14 @@ bytes-read : (bs : List LogicBit) (u : List ℕ) → map ofByte (take (length bs
 unfolding texts
 bytes-read [] u = refl
 bytes-read (b ∷ bs) u = ap₂ (λ (x : LogicBit) (l : List LogicBit). x ∷ l) (of-byte b) (bytes-read bs u)
+
+pub bits-length : (s : List ℕ) (from n : ℕ) → length (bitsIn s from n) ≡ min n (length s - from)
+unfolding bitsIn
+bits-length s from n =
+    length-reverse (map ofByte (take n (drop from s)))
+    ∙ length-map (take n (drop from s)) ofByte
+    ∙ length-take n (drop from s)
+    ∙ ap (min n) (length-drop from s)
 
 pub bits-at : (n : ℕ) (s : List ℕ) (from : ℕ) (bs : List LogicBit) (u : List ℕ) → bits n (drop from s) ≡ found bs u → bs ≡ bitsIn s from n
 unfolding bitsText bitsIn

@@ -15,7 +15,7 @@ use Rattle.value.specs.Checks.{Vector}
 use Rattle.steplist.specs.Listing.{input}
 use Rattle.steplist.specs.Answers.{inputIn, inputGot}
 use Rattle.steplist.specs.declared.Input.{Input}
-use Rattle.steplist.proofs.Parts.{map-last}
+use Rattle.steplist.proofs.Parts.{map-last, first-inputs}
 use Rattle.steplist.proofs.read_inputs.Statement.{statement}
 use Rattle.steplist.proofs.read_inputs.Tie as tie
 
@@ -94,7 +94,8 @@ returns-2 c =
     sym (a .loop .inv .2
     ∙ ap (λ (k : ℕ). behind (map (inputIn s) (take (a .loop .i) (a .loop .inputs))) (many input k (drop (a .loop .p) s))) m
     ∙ many-done input (map (inputIn s) (take (a .loop .i) (a .loop .inputs))) (drop (a .loop .p) s)
-    ∙ ap (λ (k : ℕ). found (map (inputIn s) (take k (a .loop .inputs))) (drop (a .loop .p) s)) i)
+    ∙ ap (λ (k : ℕ). found (map (inputIn s) (take k (a .loop .inputs))) (drop (a .loop .p) s)) i
+    ∙ ap (λ (l : List Vector). found l (drop (a .loop .p) s)) (first-inputs s (a .loop .inputs) n (omega arith)))
 
 pub read-inputs-spec : {M : Type 1} → statement M
 read-inputs-spec =

@@ -1,15 +1,15 @@
 -- `steplist::read_list`: what each part read is put into the definition, as far as the text was read.
 use mathlib.Core.Path.{_≡_, refl, sym, _∙_}
-use mathlib.Core.List.{List, map}
+use mathlib.Core.List.{List}
 use Prim.Native.Nat.{ℕ, _≤_}
-use lib.ListN.{length, take, drop}
+use lib.ListN.{length, drop}
 use Rattle.text.specs.Read.{numberLine, many}
 use Rattle.text.specs.Read.Got.{found}
 use Rattle.text.proofs.Decimal.{line-exact}
 use Rattle.value.specs.Checks.{Vector}
 use Rattle.ops.specs.declared.Step.{Step}
 use Rattle.steplist.specs.Listing.{input, step, inputsKey, stepsKey}
-use Rattle.steplist.specs.Answers.{inputIn}
+use Rattle.steplist.specs.Answers.{inputsIn, stepsIn}
 use Rattle.steplist.proofs.Parts.{line-at, line-not, got-found, got-broken, not-listed, long, no-count, no-length, no-inputs, no-steps, follows, accepted}
 use borrow.Author.Needs.{needs}
 use Rattle.steplist.proofs.read_list.Statement.{statement}
@@ -63,7 +63,7 @@ behind-inputs c = c .before .behind-inputs .given .0 .0
 
 got-inputs : (c : tie.After-known-told3) → let k = two c in let s = text (start3 c) in
     many input (count (one k)) (drop (behind-length k) s)
-    ≡ found (map (inputIn s) (take (count (one k)) (c .before .before .before .before .read-inputs .result .inputs))) (drop (behind-inputs c) s)
+    ≡ found (inputsIn s (count (one k)) (c .before .before .before .before .read-inputs .result .inputs)) (drop (behind-inputs c) s)
 got-inputs c =
     sym (c .before .before .before .before .read-inputs .ensures) ∙ got-found (text (start3 c)) _ _ _ (c .before .behind-inputs .given .1)
 
@@ -72,7 +72,7 @@ three c = c .before .before .before .before .before
 
 got-steps : (c : tie.After-known-told4) → let j = three c in let s = text (start3 j) in
     many step (steps (two j)) (drop (behind-inputs j) s)
-    ≡ found (take (steps (two j)) (c .before .before .before .before .read-steps .result .steps)) (drop (c .before .behind-steps .given .0 .0) s)
+    ≡ found (stepsIn (steps (two j)) (c .before .before .before .before .read-steps .result .steps)) (drop (c .before .behind-steps .given .0 .0) s)
 got-steps c =
     sym (c .before .before .before .before .read-steps .ensures) ∙ got-found (text (start3 (three c))) _ _ _ (c .before .behind-steps .given .1)
 

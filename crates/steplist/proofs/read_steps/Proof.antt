@@ -14,6 +14,7 @@ use Rattle.text.proofs.Turns.{behind, behind-none, many-done, many-next, many-b
 use Rattle.ops.specs.declared.Step.{Step}
 use Rattle.steplist.specs.Listing.{step}
 use Rattle.steplist.specs.Answers.{stepGot}
+use Rattle.steplist.proofs.Parts.{first-steps}
 use Rattle.steplist.proofs.read_steps.Statement.{statement}
 use Rattle.steplist.proofs.read_steps.Tie as tie
 
@@ -92,7 +93,8 @@ returns-2 c =
     sym (a .loop .inv .2
     ∙ ap (λ (k : ℕ). behind (take (a .loop .i) (a .loop .steps)) (many step k (drop (a .loop .p) s))) m
     ∙ many-done step (take (a .loop .i) (a .loop .steps)) (drop (a .loop .p) s)
-    ∙ ap (λ (k : ℕ). found (take k (a .loop .steps)) (drop (a .loop .p) s)) i)
+    ∙ ap (λ (k : ℕ). found (take k (a .loop .steps)) (drop (a .loop .p) s)) i
+    ∙ ap (λ (l : List Step). found l (drop (a .loop .p) s)) (first-steps (a .loop .steps) n (omega arith)))
 
 pub read-steps-spec : {M : Type 1} → statement M
 read-steps-spec =
