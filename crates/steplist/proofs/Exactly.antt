@@ -1,5 +1,4 @@
 -- The readers of a step list accept its text, within the limits, and no other text.
---     name-exact, choice-exact     a line of a key and one of several names
 --     input-exact, step-exact, list-exact     an input, a step, all lines of a list
 --     whole-exactly     a whole text
 use mathlib.Core.Path.{_≡_, refl, sym, ap, ap₂, _∙_, subst, subst⁻¹}
@@ -8,25 +7,25 @@ use mathlib.Core.List.{List, [], _∷_, _++_, map, append-nil}
 use Prim.Native.Nat.{ℕ, zero, suc, _≤_, _<_}
 use native.Mathlib.Omega.{arith}
 use lib.Dec.{leb}
-use lib.ListN.{length, getD, length-map}
+use lib.ListN.{length, getD}
 use borrow.Author.Tests.{le-leb, leb-true}
 use Rattle.bit.specs.declared.LogicBit.{LogicBit}
 use Rattle.refusal.specs.Outcome.Answer.{given, refused}
-use Rattle.text.specs.Read.{Got, next, lineEnd, numberLine, oneOf, bitsLine, many}
+use Rattle.text.specs.Read.{Got, next, lineEnd, numberLine, bitsLine, many}
 use Rattle.text.specs.Read.Got.{found, broken}
-use Rattle.text.specs.Write.{nameText, texts, numberText, bitsText}
+use Rattle.text.specs.Write.{texts, numberText, bitsText}
 use Rattle.text.specs.Exact.{Exact, All}
-use Rattle.text.proofs.Exact.{next-found, next-exact, limit-exact, after-key, many-exact}
+use Rattle.text.proofs.Exact.{next-found, next-exact, limit-exact, many-exact}
 use Rattle.text.proofs.Decimal.{line-exact}
-use Rattle.text.proofs.Names.{distinct, oneOf-exact}
 use Rattle.text.proofs.Vectors.{bitsLine-exact}
 use Rattle.value.specs.declared.Header.{Header}
 use Rattle.value.specs.Checks.{Vector}
 use Rattle.ops.specs.declared.Op.{Op}
-use Rattle.ops.specs.declared.Op.the-variants.{And, Or, Xor, Not, Merge, ReduceAnd, ReduceOr, ReduceXor, Equal, CaseEqual, CasezEqual, CasexEqual, WildcardEqual, LogicAnd, LogicOr, Select, Insert}
 use Rattle.ops.specs.declared.Step.{Step}
-use Rattle.steplist.specs.Listing.{StepList, nameLine, choiceLine, Marks, unsigned, signed, fill, allMarks, marksName, marked, marksOf, widthKey, kindKey, bitsKey}
-use Rattle.steplist.specs.Listing.{input, inputText, InputWithin, opKey, aKey, bKey, cKey, allOps, opName, largest, numbers, step, stepText, StepWithin}
+use Rattle.opline.specs.OpLine.{choiceLine, opKey, opName, largest}
+use Rattle.opline.proofs.Names.{choice-exact, op-exact}
+use Rattle.steplist.specs.Listing.{StepList, Marks, unsigned, signed, fill, allMarks, marksName, marked, marksOf, widthKey, kindKey, bitsKey}
+use Rattle.steplist.specs.Listing.{input, inputText, InputWithin, aKey, bKey, cKey, numbers, step, stepText, StepWithin}
 use Rattle.steplist.specs.Listing.{inputsKey, stepsKey, list, listText, Within, ended, whole, WholeExactly}
 
 -- ---- a value made of what was read last
@@ -47,43 +46,6 @@ made-of {A} {B} {r} {w} {P} f g x there back = record {
       let o = x .only a t (n .1) (n .2) in
       ((rw (m .0) (o .0), m .1), o .1 ∙ ap (λ (z : List ℕ). w a ++ z) q ∙ ap (λ (z : A). w z ++ u) (sym (m .0)));
 }
-
--- ---- one of several names
-
-pub name-exact : (k : List ℕ) (names : List (List ℕ)) → distinct names ≡ true → Exact (nameLine k names) (λ n. k ++ nameText names n) (λ n. n < length names)
-unfolding nameLine
-name-exact k names d = after-key k (oneOf-exact names d)
-
-name-at : {A : Type 0} (name : A → List ℕ) (l : List A) (d : A) (n : ℕ) → n < length l → getD (map name l) n [] ≡ name (getD l n d)
-name-at name [] d n h = absurd (omega arith)
-name-at name (a ∷ l) d zero h = refl
-name-at name (a ∷ l) d (suc n) h = name-at name l d n (omega arith)
-
--- every value stands in the list
-pub choice-exact : {A : Type 0} (k : List ℕ) (name : A → List ℕ) (l : List A) (d : A) → distinct (map name l) ≡ true
-    → ((a : A) → (n : ℕ) × (n < length l) × (getD l n d ≡ a))
-    → Exact (choiceLine k name l d) (λ a. k ++ (name a ++ lineEnd)) (λ a. Unit {0})
-unfolding choiceLine nameText
-choice-exact {A} k name l d e listed = record {
-  accepts = λ a t p.
-      let i = listed a in
-      let n : ℕ = i .0 in
-      let w : getD (map name l) n [] ≡ name a = name-at name l d n (i .1) ∙ ap name (i .2) in
-      ap (λ (z : List ℕ). next (nameLine k (map name l) ((k ++ (z ++ lineEnd)) ++ t)) (λ n. found (getD l n d))) (sym w)
-      ∙ ap (λ z. next z (λ n. found (getD l n d))) (x .accepts n t (rw (length-map l name) (i .1)))
-      ∙ ap (λ (z : A). found z t) (i .2);
-  only = λ a t u h.
-      let f = next-found (nameLine k (map name l) t) (λ n. found (getD l n d)) a u h in
-      let n : ℕ = f .0 in
-      let o = x .only n t (f .1) (f .2) in
-      let v : getD l n d ≡ a = cc (f .3) in
-      let q : f .1 ≡ u = cc (f .3) in
-      let w : getD (map name l) n [] ≡ name a = name-at name l d n (rw (length-map l name) at (o .0)) ∙ ap name v in
-      (tt, o .1 ∙ ap (λ (z : List ℕ). (k ++ (getD (map name l) n [] ++ lineEnd)) ++ z) q ∙ ap (λ (z : List ℕ). (k ++ (z ++ lineEnd)) ++ u) w);
-}
-  where
-    x : Exact (nameLine k (map name l)) (λ n. k ++ nameText (map name l) n) (λ n. n < length (map name l))
-    x = name-exact k (map name l) e
 
 -- ---- an input
 
@@ -139,28 +101,6 @@ input-exact =
     (λ x e. λ i. record { header = e i; bits = x .bits }))))))
 
 -- ---- a step
-
-op-listed : (o : Op) → (n : ℕ) × (n < 17) × (getD allOps n And ≡ o)
-op-listed And = (0, omega arith, refl)
-op-listed Or = (1, omega arith, refl)
-op-listed Xor = (2, omega arith, refl)
-op-listed Not = (3, omega arith, refl)
-op-listed Merge = (4, omega arith, refl)
-op-listed ReduceAnd = (5, omega arith, refl)
-op-listed ReduceOr = (6, omega arith, refl)
-op-listed ReduceXor = (7, omega arith, refl)
-op-listed Equal = (8, omega arith, refl)
-op-listed CaseEqual = (9, omega arith, refl)
-op-listed CasezEqual = (10, omega arith, refl)
-op-listed CasexEqual = (11, omega arith, refl)
-op-listed WildcardEqual = (12, omega arith, refl)
-op-listed LogicAnd = (13, omega arith, refl)
-op-listed LogicOr = (14, omega arith, refl)
-op-listed Select = (15, omega arith, refl)
-op-listed Insert = (16, omega arith, refl)
-
-op-exact : Exact (choiceLine opKey opName allOps And) (λ o. opKey ++ (opName o ++ lineEnd)) (λ o. Unit {0})
-op-exact = choice-exact opKey opName allOps And refl op-listed
 
 -- its numbers are such as the op o may have
 abbrev Numbers : Step → Op → Type 0

@@ -4,39 +4,26 @@ use Prim.Native.Nat.{ℕ, _≤_}
 use mathlib.Core.Path.{_≡_}
 use mathlib.Core.Logic.{_↔_}
 use mathlib.Core.Bool.{true, false, _&&_, cond}
-use mathlib.Core.List.{List, [], _∷_, _++_, map}
-use lib.Dec.{leb, ltb}
-use lib.ListN.{length, getD}
+use mathlib.Core.List.{List, [], _∷_, _++_}
+use lib.Dec.{leb}
+use lib.ListN.{length}
 use Rattle.bit.specs.declared.LogicBit.{LogicBit}
 use Rattle.refusal.specs.Outcome.{Answer}
 use Rattle.refusal.specs.Outcome.Answer.{given, refused}
-use Rattle.text.specs.Read.{Got, next, lineEnd, key, numberLine, oneOf, bitsLine, many}
+use Rattle.text.specs.Read.{Got, next, lineEnd, numberLine, bitsLine, many}
 use Rattle.text.specs.Read.Got.{found, broken}
 use Rattle.text.specs.Write.{texts, numberText, bitsText}
 use Rattle.text.specs.Exact.{All}
 use Rattle.value.specs.declared.Header.{Header}
 use Rattle.value.specs.Checks.{Vector}
 use Rattle.ops.specs.declared.Op.{Op}
-use Rattle.ops.specs.declared.Op.the-variants.{And, Or, Xor, Not, Merge, ReduceAnd, ReduceOr, ReduceXor, Equal, CaseEqual, CasezEqual, CasexEqual, WildcardEqual, LogicAnd, LogicOr, Select, Insert}
-use Rattle.ops.specs.declared.Kind.{Kind}
-use Rattle.ops.specs.declared.Kind.the-variants as kind
 use Rattle.ops.specs.declared.Step.{Step}
-use Rattle.ops.specs.Ops.{kindOf, questionOperands}
+use Rattle.opline.specs.OpLine.{choiceLine, opKey, opName, opLine, largest}
 
 -- a list: its inputs and its steps, in order
 pub record StepList : Type 0 where
   pub inputs : List Vector
   pub steps : List Step
-
--- ---- a line of a key and one of several names
-
--- the name's number, from 0
-unfoldable pub nameLine : List ℕ → List (List ℕ) → List ℕ → Got ℕ
-nameLine k names t = next (key k t) (λ x. oneOf names 0)
-
--- the value of l that has the name; d is what a number past the end would read, and none is
-unfoldable pub choiceLine : {A : Type 0} → List ℕ → (A → List ℕ) → List A → A → List ℕ → Got A
-choiceLine k name l d t = next (nameLine k (map name l) t) (λ n. found (getD l n d))
 
 -- ---- an input: width=, kind=, bits=
 
@@ -93,10 +80,6 @@ InputWithin x = (x .header .width ≤ 4096) × (length (x .bits) ≡ x .header .
 
 -- ---- a step: op=, a=, b=, c=
 
--- `op=`
-abbrev pub opKey : List ℕ
-opKey = 111 ∷ 112 ∷ 61 ∷ []
-
 -- `a=`
 abbrev pub aKey : List ℕ
 aKey = 97 ∷ 61 ∷ []
@@ -109,44 +92,6 @@ bKey = 98 ∷ 61 ∷ []
 abbrev pub cKey : List ℕ
 cKey = 99 ∷ 61 ∷ []
 
-abbrev pub allOps : List Op
-allOps = And ∷ Or ∷ Xor ∷ Not ∷ Merge ∷ ReduceAnd ∷ ReduceOr ∷ ReduceXor ∷ Equal ∷ CaseEqual ∷ CasezEqual ∷ CasexEqual ∷ WildcardEqual ∷ LogicAnd ∷ LogicOr ∷ Select ∷ Insert ∷ []
-
--- and, or, xor, not, mrg, rand, ror, rxor, eq, ceq, cz, cx, weq, land, lor, sel, ins
-abbrev pub opName : Op → List ℕ
-opName And = 97 ∷ 110 ∷ 100 ∷ []
-opName Or = 111 ∷ 114 ∷ []
-opName Xor = 120 ∷ 111 ∷ 114 ∷ []
-opName Not = 110 ∷ 111 ∷ 116 ∷ []
-opName Merge = 109 ∷ 114 ∷ 103 ∷ []
-opName ReduceAnd = 114 ∷ 97 ∷ 110 ∷ 100 ∷ []
-opName ReduceOr = 114 ∷ 111 ∷ 114 ∷ []
-opName ReduceXor = 114 ∷ 120 ∷ 111 ∷ 114 ∷ []
-opName Equal = 101 ∷ 113 ∷ []
-opName CaseEqual = 99 ∷ 101 ∷ 113 ∷ []
-opName CasezEqual = 99 ∷ 122 ∷ []
-opName CasexEqual = 99 ∷ 120 ∷ []
-opName WildcardEqual = 119 ∷ 101 ∷ 113 ∷ []
-opName LogicAnd = 108 ∷ 97 ∷ 110 ∷ 100 ∷ []
-opName LogicOr = 108 ∷ 111 ∷ 114 ∷ []
-opName Select = 115 ∷ 101 ∷ 108 ∷ []
-opName Insert = 105 ∷ 110 ∷ 115 ∷ []
-
--- how many of a, b and c an op uses, the first ones: the cells that it names, and the position of insert
-abbrev pub kindUses : Kind → ℕ
-kindUses (kind.Join j) = 2
-kindUses kind.Not = 1
-kindUses (kind.Answer q) = questionOperands q
-kindUses kind.Select = 3
-kindUses kind.Insert = 3
-
-abbrev pub uses : Op → ℕ
-uses op = kindUses (kindOf op)
-
--- the largest number that the i-th of a, b and c may be, from 0: an unused one is 0
-abbrev pub largest : Op → ℕ → ℕ
-largest op i = cond (ltb i (uses op)) 4294967295 0
-
 -- the numbers of a step with the op o
 unfoldable pub numbers : Op → List ℕ → Got Step
 numbers o t =
@@ -156,7 +101,7 @@ numbers o t =
     found (record { op = o; a = a; b = b; c = c }))))
 
 unfoldable pub step : List ℕ → Got Step
-step t = next (choiceLine opKey opName allOps And t) numbers
+step t = next (opLine t) numbers
 
 unfoldable pub stepText : Step → List ℕ
 stepText x =

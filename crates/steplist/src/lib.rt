@@ -1,5 +1,5 @@
 // A step list, read whole and strictly: the inputs with the places of their bits in the text, and the steps.
-use ops::Kind;
+use opline::OpRead;
 use ops::Op;
 use ops::Step;
 use refusal::Refusal;
@@ -9,15 +9,14 @@ use text::Place;
 use value::Header;
 ghost use mathlib.Core.Path.{_≡_};
 ghost use mathlib.Core.List.{map};
-ghost use Prim.Native.Nat.{_≤_, _<_};
-ghost use lib.ListN.{drop, getD};
+ghost use Prim.Native.Nat.{_≤_};
+ghost use lib.ListN.{drop};
 ghost use Rattle.refusal.specs.declared.Refusal.the-variants.{BadFormat};
 ghost use Rattle.refusal.specs.declared.Verdict.the-variants.{Refused};
-ghost use Rattle.ops.specs.declared.Op.the-variants.{And};
-ghost use Rattle.text.specs.Read.{oneOf, many};
+ghost use Rattle.text.specs.Read.{many};
 ghost use Rattle.text.specs.Answers.{lineIn};
-ghost use Rattle.steplist.specs.Listing.{nameLine, kindKey, marksName, allMarks, input, opKey, opName, allOps};
-ghost use Rattle.steplist.specs.Listing.{uses as usesOf, largest as largestOf, numbers, step, whole};
+ghost use Rattle.opline.specs.OpLine.{nameLine};
+ghost use Rattle.steplist.specs.Listing.{kindKey, marksName, allMarks, input, numbers, step, whole};
 ghost use Rattle.steplist.specs.Answers.{inputGot, inputsGot, stepGot, stepsGot, listAnswer};
 
 // An input: its header, and the place in the text where its bits stand, highest first.
@@ -146,97 +145,17 @@ fn read_inputs(s: &[u8], at: usize, n: usize) -> InputsRead
     }
 }
 
-// The name of an op, as its number.
-fn op_name(s: &[u8], at: usize) -> Line
-    ensures { λ r. ⌜ r ≡ lineIn (now (s .entry)) (oneOf (map opName allOps) 0 (drop at (now (s .entry)))) ⌝ }
-{
-    let r = text::named(s, at, b"ins", 16, Line::Broken);
-    let r = text::named(s, at, b"sel", 15, r);
-    let r = text::named(s, at, b"lor", 14, r);
-    let r = text::named(s, at, b"land", 13, r);
-    let r = text::named(s, at, b"weq", 12, r);
-    let r = text::named(s, at, b"cx", 11, r);
-    let r = text::named(s, at, b"cz", 10, r);
-    let r = text::named(s, at, b"ceq", 9, r);
-    let r = text::named(s, at, b"eq", 8, r);
-    let r = text::named(s, at, b"rxor", 7, r);
-    let r = text::named(s, at, b"ror", 6, r);
-    let r = text::named(s, at, b"rand", 5, r);
-    let r = text::named(s, at, b"mrg", 4, r);
-    let r = text::named(s, at, b"not", 3, r);
-    let r = text::named(s, at, b"xor", 2, r);
-    let r = text::named(s, at, b"or", 1, r);
-    text::named(s, at, b"and", 0, r)
-}
-
-// The line op=, as the number of the op.
-fn op_line(s: &[u8], at: usize) -> Line
-    ensures { λ r. ⌜ r ≡ lineIn (now (s .entry)) (nameLine opKey (map opName allOps) (drop at (now (s .entry)))) ⌝ }
-{
-    match text::skip(s, at, b"op=") {
-        Place::At(i) => op_name(s, i),
-        Place::Absent => Line::Broken,
-    }
-}
-
-// The op of a number.
-fn op_at(n: usize) -> Op
-    requires { ⌜ n < 17 ⌝ }
-    ensures { λ r. ⌜ r ≡ getD allOps n And ⌝ }
-{
-    let ops = [
-        Op::And,
-        Op::Or,
-        Op::Xor,
-        Op::Not,
-        Op::Merge,
-        Op::ReduceAnd,
-        Op::ReduceOr,
-        Op::ReduceXor,
-        Op::Equal,
-        Op::CaseEqual,
-        Op::CasezEqual,
-        Op::CasexEqual,
-        Op::WildcardEqual,
-        Op::LogicAnd,
-        Op::LogicOr,
-        Op::Select,
-        Op::Insert,
-    ];
-    ops[n]
-}
-
-// How many of a, b and c an op uses.
-fn uses(op: Op) -> usize
-    ensures { λ r. ⌜ r ≡ usesOf op ⌝ }
-{
-    match ops::kind_of(op) {
-        Kind::Join(_) => 2,
-        Kind::Not => 1,
-        Kind::Answer(_) => ops::operand_count(op),
-        Kind::Select => 3,
-        Kind::Insert => 3,
-    }
-}
-
-// The largest number that the i-th of a, b and c may be, from 0: an unused one is 0.
-fn largest(op: Op, i: usize) -> u32
-    ensures { λ r. ⌜ r ≡ largestOf op i ⌝ }
-{
-    if i < uses(op) { 4294967295 } else { 0 }
-}
-
 // The lines a=, b= and c= of a step.
 fn read_numbers(s: &[u8], at: usize, op: Op) -> StepRead
     ensures { λ r. ⌜ stepGot (now (s .entry)) r ≡ numbers op (drop at (now (s .entry))) ⌝ }
 {
-    let Line::Number(a, i) = text::number_line(s, at, b"a=", largest(op, 0)) else {
+    let Line::Number(a, i) = text::number_line(s, at, b"a=", opline::largest(op, 0)) else {
         return StepRead::Broken;
     };
-    let Line::Number(b, j) = text::number_line(s, i, b"b=", largest(op, 1)) else {
+    let Line::Number(b, j) = text::number_line(s, i, b"b=", opline::largest(op, 1)) else {
         return StepRead::Broken;
     };
-    let Line::Number(c, k) = text::number_line(s, j, b"c=", largest(op, 2)) else {
+    let Line::Number(c, k) = text::number_line(s, j, b"c=", opline::largest(op, 2)) else {
         return StepRead::Broken;
     };
     StepRead::Found(Step { op, a, b, c }, k)
@@ -246,11 +165,10 @@ fn read_numbers(s: &[u8], at: usize, op: Op) -> StepRead
 fn read_step(s: &[u8], at: usize) -> StepRead
     ensures { λ r. ⌜ stepGot (now (s .entry)) r ≡ step (drop at (now (s .entry))) ⌝ }
 {
-    let Line::Number(n, i) = op_line(s, at) else {
-        return StepRead::Broken;
-    };
-    let op = op_at(n as usize);
-    read_numbers(s, i, op)
+    match opline::op_line(s, at) {
+        OpRead::Found(op, i) => read_numbers(s, i, op),
+        OpRead::Broken => StepRead::Broken,
+    }
 }
 
 // n steps.

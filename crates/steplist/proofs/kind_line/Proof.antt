@@ -8,7 +8,8 @@ use Rattle.text.specs.Answers.{lineIn}
 use Rattle.text.proofs.Names.{First, first-of}
 use Rattle.text.proofs.Names.First.{last, name}
 use Rattle.text.proofs.Places.{keyed, unkeyed}
-use Rattle.steplist.specs.Listing.{nameLine, kindKey, marksName, allMarks}
+use Rattle.opline.specs.OpLine.{nameLine}
+use Rattle.steplist.specs.Listing.{kindKey, marksName, allMarks}
 use borrow.Author.Needs.{needs}
 use Rattle.steplist.proofs.kind_line.Statement.{statement}
 use Rattle.steplist.proofs.kind_line.Tie as tie

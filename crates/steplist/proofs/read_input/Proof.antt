@@ -9,8 +9,9 @@ use Rattle.text.specs.Read.{numberLine, bitsLine}
 use Rattle.text.specs.Read.Got.{found}
 use Rattle.text.proofs.Vectors.{bitsLine-exact}
 use Rattle.text.proofs.Places.{line-found, line-broken, line-within, place-found, place-absent}
-use Rattle.steplist.specs.Listing.{nameLine, choiceLine, widthKey, kindKey, bitsKey, marksName, allMarks, input}
-use Rattle.steplist.proofs.Exactly.{name-exact}
+use Rattle.opline.specs.OpLine.{nameLine, choiceLine}
+use Rattle.opline.proofs.Names.{name-exact}
+use Rattle.steplist.specs.Listing.{widthKey, kindKey, bitsKey, marksName, allMarks, input}
 use Rattle.steplist.proofs.Parts.{line-at, line-not, marked-at, bits-stand}
 use borrow.Author.Needs.{needs}
 use Rattle.steplist.proofs.read_input.Statement.{statement}

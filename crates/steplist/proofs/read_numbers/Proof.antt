@@ -5,7 +5,8 @@ use Prim.Native.Nat.{ℕ}
 use lib.ListN.{drop}
 use Rattle.text.specs.Read.{numberLine}
 use Rattle.text.specs.Read.Got.{found}
-use Rattle.steplist.specs.Listing.{aKey, bKey, cKey, largest, numbers}
+use Rattle.opline.specs.OpLine.{largest}
+use Rattle.steplist.specs.Listing.{aKey, bKey, cKey, numbers}
 use Rattle.steplist.proofs.Parts.{line-at, line-not}
 use borrow.Author.Needs.{needs}
 use Rattle.steplist.proofs.read_numbers.Statement.{statement}

@@ -1,8 +1,8 @@
--- `steplist::largest`: by the test.
+-- `opline::largest`: by the test.
 use borrow.Author.Tests.{lt-ltb, le-ltb}
 use borrow.Author.Needs.{needs}
-use Rattle.steplist.proofs.largest.Statement.{statement}
-use Rattle.steplist.proofs.largest.Tie as tie
+use Rattle.opline.proofs.largest.Statement.{statement}
+use Rattle.opline.proofs.largest.Tie as tie
 
 uses-requires : tie.Need-uses-requires
 uses-requires c κs = search needs

@@ -1,13 +1,13 @@
--- `steplist::op_name`: the names are tried one after the other, each with the answer for those behind it in the list.
+-- `opline::op_name`: the names are tried one after the other, each with the answer for those behind it in the list.
 use mathlib.Core.List.{List, map}
 use Prim.Native.Nat.{ℕ}
 use lib.ListN.{drop}
 use Rattle.text.proofs.Names.{First, first-of}
 use Rattle.text.proofs.Names.First.{last, name}
-use Rattle.steplist.specs.Listing.{opName, allOps}
+use Rattle.opline.specs.OpLine.{opName, allOps}
 use borrow.Author.Needs.{needs}
-use Rattle.steplist.proofs.op_name.Statement.{statement}
-use Rattle.steplist.proofs.op_name.Tie as tie
+use Rattle.opline.proofs.op_name.Statement.{statement}
+use Rattle.opline.proofs.op_name.Tie as tie
 
 slice-aggregate-named : tie.Need-slice-aggregate-named
 slice-aggregate-named c = search needs
