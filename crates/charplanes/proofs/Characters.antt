@@ -13,7 +13,7 @@ use lib.ListN.{length, getD, take, drop, length-reverse, List·getD-append, List
 use lib.Seq.{getD-at, getD-take, getD-drop}
 use Rattle.bit.specs.declared.LogicBit.{LogicBit}
 use Rattle.bit.specs.declared.LogicBit.the-variants.{Zero}
-use Rattle.words.specs.Vector.{at, bitAt, pack}
+use Rattle.words.specs.Vector.{at, pack}
 use Rattle.words.specs.Planes.{wordOf}
 use Rattle.words.proofs.Digits.{lt-or-ge, pack-cong, pack-lt, pack-bit, pack-ext, bit-above}
 use Rattle.text.specs.Read.{ofByte}
@@ -38,7 +38,7 @@ getD-reverse {A} (a ∷ l) d (suc j) h =
 pub length-in : (s : List ℕ) (from n : ℕ) → n ≤ length s - from → length (bitsIn s from n) ≡ n
 length-in s from n h = bits-length s from n ∙ omega arith
 
-pub bit-in : (s : List ℕ) (from n i : ℕ) → n ≤ length s - from → i < n → at (bitsIn s from n) i ≡ ofByte (getD s (from + (n - 1 - i)) 0)
+bit-in : (s : List ℕ) (from n i : ℕ) → n ≤ length s - from → i < n → at (bitsIn s from n) i ≡ ofByte (getD s (from + (n - 1 - i)) 0)
 unfolding bitsIn ofByte
 bit-in s from n i h l =
     let cs : List LogicBit = map ofByte (take n (drop from s)) in
@@ -50,7 +50,7 @@ bit-in s from n i h l =
     ∙ List·getD-map ofByte (take n (drop from s)) j 0
     ∙ ap ofByte (getD-take n (drop from s) j 0 (omega arith) ∙ getD-drop from s j 0)
 
-pub bit-past : (s : List ℕ) (from n i : ℕ) → n ≤ i → at (bitsIn s from n) i ≡ Zero
+bit-past : (s : List ℕ) (from n i : ℕ) → n ≤ i → at (bitsIn s from n) i ≡ Zero
 bit-past s from n i h = List·getD-eq-default (bitsIn s from n) Zero (omega (arith, bits-length s from n))
 
 -- ---- the digits d of the first n characters as a number

@@ -3,17 +3,15 @@
 --     whole-exactly     a whole text
 use mathlib.Core.Path.{_≡_, refl, sym, ap, ap₂, _∙_, subst, subst⁻¹}
 use mathlib.Core.Bool.{Bool, true, false, _&&_, cond}
-use mathlib.Core.List.{List, [], _∷_, _++_, map, append-nil}
-use Prim.Native.Nat.{ℕ, zero, suc, _≤_, _<_}
+use mathlib.Core.List.{List, [], _∷_, _++_, append-nil}
+use Prim.Native.Nat.{ℕ, _≤_, _<_}
 use native.Mathlib.Omega.{arith}
 use lib.Dec.{leb}
 use lib.ListN.{length, getD}
 use borrow.Author.Tests.{le-leb, leb-true}
-use Rattle.bit.specs.declared.LogicBit.{LogicBit}
 use Rattle.refusal.specs.Outcome.Answer.{given, refused}
-use Rattle.text.specs.Read.{Got, next, lineEnd, numberLine, bitsLine, many}
+use Rattle.text.specs.Read.{Got, next, lineEnd}
 use Rattle.text.specs.Read.Got.{found, broken}
-use Rattle.text.specs.Write.{texts, numberText, bitsText}
 use Rattle.text.specs.Exact.{Exact, All}
 use Rattle.text.proofs.Exact.{next-found, next-exact, limit-exact, many-exact}
 use Rattle.text.proofs.Decimal.{line-exact}
@@ -22,7 +20,7 @@ use Rattle.value.specs.declared.Header.{Header}
 use Rattle.value.specs.Checks.{Vector}
 use Rattle.ops.specs.declared.Op.{Op}
 use Rattle.ops.specs.declared.Step.{Step}
-use Rattle.opline.specs.OpLine.{choiceLine, opKey, opName, largest}
+use Rattle.opline.specs.OpLine.{choiceLine, largest}
 use Rattle.opline.proofs.Names.{choice-exact, op-exact}
 use Rattle.steplist.specs.Listing.{StepList, Marks, unsigned, signed, fill, allMarks, marksName, marked, marksOf, widthKey, kindKey, bitsKey}
 use Rattle.steplist.specs.Listing.{input, inputText, InputWithin, aKey, bKey, cKey, numbers, step, stepText, StepWithin}
@@ -81,7 +79,7 @@ marked-again h e = go (h .«is_signed») (h .«is_fill») refl refl e
     go false true p q z = λ i. record { width = h .width; «is_signed» = p i; «is_fill» = q i }
     go false false p q z = λ i. record { width = h .width; «is_signed» = p i; «is_fill» = q i }
 
-pub input-exact : Exact input inputText InputWithin
+input-exact : Exact input inputText InputWithin
 unfolding input inputText InputWithin
 input-exact =
     limit-exact (λ x p. (p .0, p .1 .0, p .1 .1)) (λ x p. (p .0, (p .1, p .2)))
@@ -106,7 +104,7 @@ input-exact =
 abbrev Numbers : Step → Op → Type 0
 Numbers x o = (x .a ≤ largest o 0) × (x .b ≤ largest o 1) × (x .c ≤ largest o 2)
 
-pub step-exact : Exact step stepText StepWithin
+step-exact : Exact step stepText StepWithin
 unfolding step numbers stepText StepWithin
 step-exact =
     limit-exact (λ x p. p .1) (λ x p. (tt {0}, p))
@@ -123,7 +121,7 @@ step-exact =
 
 -- ---- a whole list
 
-pub list-exact : Exact list listText Within
+list-exact : Exact list listText Within
 unfolding list listText Within
 list-exact =
     limit-exact (λ l p. (p .0, p .1 .0, p .1 .1, p .1 .2)) (λ l p. (p .0, (p .1, p .2, p .3)))

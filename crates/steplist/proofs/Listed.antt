@@ -2,7 +2,7 @@
 --     listed          the text says the list that the arrays hold
 --     listed-counts   the counts fit the arrays
 --     listed-places   an input is at most 4,096 wide, no signed fill, and its characters stand in the text
-use mathlib.Core.Path.{_≡_, sym, ap, _∙_, subst}
+use mathlib.Core.Path.{_≡_, sym, _∙_, subst}
 use mathlib.Core.Bool.{false, _&&_}
 use mathlib.Core.List.{List, [], _∷_}
 use Prim.Native.Nat.{ℕ, zero, suc, _-_, _≤_, _<_}
@@ -11,7 +11,6 @@ use lib.ListN.{length, getD}
 use Rattle.refusal.specs.Outcome.Answer.{given}
 use Rattle.refusal.specs.declared.Verdict.the-variants.{Accepted}
 use Rattle.words.proofs.Planes.{length-tabulate, getD-tabulate}
-use Rattle.text.specs.Answers.{bitsIn}
 use Rattle.text.specs.Exact.{All}
 use Rattle.text.proofs.Vectors.{bits-length}
 use Rattle.value.specs.Checks.{Vector}

@@ -4,11 +4,11 @@
 --     got-found, got-broken      several inputs or steps, by the place behind them
 --     first-inputs, first-steps      the first elements of an array, one by one
 --     long, no-.., follows, accepted     a whole text, by how far it is read
-use mathlib.Core.Path.{_≡_, refl, sym, ap, _∙_, subst}
+use mathlib.Core.Path.{_≡_, refl, sym, ap, _∙_}
 use mathlib.Core.List.{List, [], _∷_, _++_, map}
 use Prim.Native.Nat.{ℕ, zero, suc, _+_, _≤_, _<_}
 use native.Mathlib.Omega.{arith}
-use lib.Dec.{eqb, leb}
+use lib.Dec.{eqb}
 use lib.ListN.{length, take, drop, getD, drop-of-length-le, length-map, List·getD-map}
 use lib.Seq.{drop-cons, drop-drop, length-take-le, getD-take}
 use borrow.Author.Tests.{ne-eqb, le-leb, lt-leb}
@@ -17,7 +17,7 @@ use Rattle.refusal.specs.Outcome.Answer.{given, refused}
 use Rattle.refusal.specs.declared.Refusal.the-variants.{BadFormat}
 use Rattle.refusal.specs.declared.Verdict.the-variants.{Refused}
 use Rattle.words.proofs.Planes.{eq-tabulate}
-use Rattle.text.specs.Read.{Got, key, numberLine, bits, bitsLine, many}
+use Rattle.text.specs.Read.{key, numberLine, bits, bitsLine, many}
 use Rattle.text.specs.Read.Got.{found, broken}
 use Rattle.text.specs.Answers.{lineIn, bitsIn}
 use Rattle.text.specs.declared.Line.the-variants.{Number, Broken}
@@ -29,7 +29,7 @@ use Rattle.text.proofs.Vectors.{bits-at}
 use Rattle.text.proofs.Places.{line-found, line-broken}
 use Rattle.value.specs.Checks.{Vector}
 use Rattle.ops.specs.declared.Step.{Step}
-use Rattle.steplist.specs.Listing.{StepList, unsigned, allMarks, marked, bitsKey, input, step, inputsKey, stepsKey, list, whole}
+use Rattle.steplist.specs.Listing.{unsigned, allMarks, marked, bitsKey, input, step, inputsKey, stepsKey, list, whole}
 use Rattle.steplist.specs.Answers.{inputIn, noInput, noStep, inputsIn, stepsIn, gotAt, listAnswer}
 use Rattle.steplist.specs.declared.Input.{Input}
 use Rattle.steplist.specs.declared.ListAnswer.{ListAnswer}

@@ -1,7 +1,7 @@
 -- `opline::op_line`: the name is read behind the key, and its number gives the op.
 use mathlib.Core.Path.{_≡_, refl, sym, ap, _∙_}
 use mathlib.Core.List.{List, map}
-use Prim.Native.Nat.{ℕ, _<_}
+use Prim.Native.Nat.{ℕ}
 use lib.ListN.{drop, getD}
 use Rattle.text.specs.Read.{Got, next, oneOf}
 use Rattle.text.specs.Read.Got.{found}

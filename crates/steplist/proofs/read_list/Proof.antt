@@ -6,8 +6,6 @@ use lib.ListN.{length, drop}
 use Rattle.text.specs.Read.{numberLine, many}
 use Rattle.text.specs.Read.Got.{found}
 use Rattle.text.proofs.Decimal.{line-exact}
-use Rattle.value.specs.Checks.{Vector}
-use Rattle.ops.specs.declared.Step.{Step}
 use Rattle.steplist.specs.Listing.{input, step, inputsKey, stepsKey}
 use Rattle.steplist.specs.Answers.{inputsIn, stepsIn}
 use Rattle.steplist.proofs.Parts.{line-at, line-not, got-found, got-broken, not-listed, long, no-count, no-length, no-inputs, no-steps, follows, accepted}
