@@ -25,7 +25,7 @@ pub struct Input {
     pub place: usize,
 }
 
-// The list has the first input_count inputs and the first step_count steps.
+// The first `input_count` inputs and the first `step_count` steps are those of the list.
 pub struct StepList {
     pub inputs: [Input; 64],
     pub input_count: usize,
@@ -33,7 +33,7 @@ pub struct StepList {
     pub step_count: usize,
 }
 
-// Whether a text says a list, and the list; a refusal comes with an empty one.
+// Whether a text says a list, and the list if it does.
 pub struct ListAnswer {
     pub verdict: Verdict,
     pub list: StepList,
