@@ -34,8 +34,10 @@ module _ (s : List ℕ) (r : ListAnswer) (e : listAnswer s r ≡ whole s) (ok : 
 
   pub listed-counts : (r .list .«input_count» ≤ 64) × (r .list .«step_count» ≤ 256)
   unfolding Within
-  listed-counts =
-      (subst (λ (n : ℕ). n ≤ 64) (length-tabulate (r .list .«input_count») _) (within .0), subst (λ (n : ℕ). n ≤ 256) (length-tabulate (r .list .«step_count») _) (within .1))
+  listed-counts = (
+    subst (λ (n : ℕ). n ≤ 64) (length-tabulate (r .list .«input_count») _) (within .0),
+    subst (λ (n : ℕ). n ≤ 256) (length-tabulate (r .list .«step_count») _) (within .1),
+  )
 
   pub listed-places : (i : ℕ) → i < r .list .«input_count» → let x = getD (r .list .inputs) i noInput in
       (x .header .width ≤ 4096) × (x .header .width ≤ length s - x .place) × ((x .header .«is_signed» && x .header .«is_fill») ≡ false)
@@ -45,6 +47,8 @@ module _ (s : List ℕ) (r : ListAnswer) (e : listAnswer s r ≡ whole s) (ok : 
       let f : ℕ → Vector = λ j. inputIn s (getD (r .list .inputs) j noInput) in
       let x : Input = getD (r .list .inputs) i noInput in
       let p : InputWithin (inputIn s x) =
-      subst InputWithin (getD-tabulate n f i (inputIn s noInput) h) (all-at InputWithin (listIn s (r .list) .inputs) (inputIn s noInput) i (within .2) (subst (λ (m : ℕ). i < m) (sym (length-tabulate n f)) h))
+      subst InputWithin (getD-tabulate n f i (inputIn s noInput) h)
+      (all-at InputWithin (listIn s (r .list) .inputs) (inputIn s noInput) i (within .2)
+      (subst (λ (m : ℕ). i < m) (sym (length-tabulate n f)) h))
       in
       (p .0, omega (arith, sym (p .1) ∙ bits-length s (x .place) (x .header .width)), p .2)

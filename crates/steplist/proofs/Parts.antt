@@ -1,8 +1,9 @@
 -- From the code's answers for the parts of a list to what the readers find, and from there to the whole text.
 --     line-at, line-not     a line with a number, whose limit the code worked out
 --     marked-at, bits-stand      the header and the bits of an input
---     got-found, got-broken      several inputs or steps, by the place behind them
+--     map-last, got-found, got-broken      several inputs or steps, by the place behind them
 --     first-inputs, first-steps      the first elements of an array, one by one
+--     not-listed     the answer of a refusal
 --     long, no-.., follows, accepted     a whole text, by how far it is read
 use mathlib.Core.Path.{_≡_, refl, sym, ap, _∙_}
 use mathlib.Core.List.{List, [], _∷_, _++_, map}

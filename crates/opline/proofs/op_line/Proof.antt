@@ -30,7 +30,8 @@ named-at : (c : tie.After-known-told) → let a = c .before .before .before .bef
 unfolding nameLine
 named-at c =
     let w = c .before .before .before in
-    keyed opKey (oneOf (map opName allOps) 0) (text c) (w .before .before .before .args .at) (c .before .i .given .0 .0) (sym (w .skip .ensures) ∙ c .before .i .given .1)
+    keyed opKey (oneOf (map opName allOps) 0) (text c) (w .before .before .before .args .at) (c .before .i .given .0 .0)
+    (sym (w .skip .ensures) ∙ c .before .i .given .1)
 
 slice-aggregate-skip : tie.Need-slice-aggregate-skip
 slice-aggregate-skip c = search needs
@@ -87,7 +88,8 @@ returns-3 c =
     let j : ℕ = o .before .n .given .0 .1 .0 in
     ap (λ (x : Op). Found x j) (c .op-at .ensures)
     ∙ sym (ap (λ (g : Got ℕ). made (text k) g) (named-at k)
-    ∙ op-found (text k) (oneOf (map opName allOps) 0 (drop (k .before .i .given .0 .0) (text k))) (o .before .n .given .0 .0) j (sym (w .op-name .ensures) ∙ o .before .n .given .1))
+    ∙ op-found (text k) (oneOf (map opName allOps) 0 (drop (k .before .i .given .0 .0) (text k)))
+    (o .before .n .given .0 .0) j (sym (w .op-name .ensures) ∙ o .before .n .given .1))
 
 pub op-line-spec : {M : Type 1} → statement M
 op-line-spec =

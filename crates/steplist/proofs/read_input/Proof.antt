@@ -120,7 +120,8 @@ add-t20 : tie.Need-add-t20
 add-t20 c =
     let k = two c in
     let s = text (start2 k) in
-    let fits = line-within s (nameLine kindKey (map marksName allMarks) (drop (behind-width (one k)) s)) _ _ (sym (k .before .before .before .kind-line .ensures) ∙ k .before .kind .given .1) in
+    let fits = line-within s (nameLine kindKey (map marksName allMarks) (drop (behind-width (one k)) s)) _ _
+    (sym (k .before .before .before .kind-line .ensures) ∙ k .before .kind .given .1) in
     omega (arith, fits, start2 k .good)
 
 returns-4 : tie.Need-returns-4

@@ -126,7 +126,8 @@ returns-3 c =
     let k = w .before .before in
     let s = text (start1 k) in
     not-listed s (c .no-list3 .result) (c .no-list3 .ensures)
-    ∙ sym (no-length s (short k) _ _ (got-count k) (line-not stepsKey s (behind-count k) 256 256 refl (sym (w .number-line2 .ensures) ∙ c .before .enum-told2 .given .1)))
+    ∙ sym (no-length s (short k) _ _ (got-count k)
+    (line-not stepsKey s (behind-count k) 256 256 refl (sym (w .number-line2 .ensures) ∙ c .before .enum-told2 .given .1)))
 
 cast-input-count : tie.Need-cast-input-count
 cast-input-count c = search needs
@@ -149,7 +150,8 @@ returns-4 c =
     let k = w .before in
     let s = text (start2 k) in
     not-listed s (c .no-list4 .result) (c .no-list4 .ensures)
-    ∙ sym (no-inputs s (short (one k)) _ _ (got-count (one k)) _ _ (got-length k) (sym (w .read-inputs .ensures) ∙ got-broken s _ _ (c .before .enum-told3 .given .1)))
+    ∙ sym (no-inputs s (short (one k)) _ _ (got-count (one k)) _ _ (got-length k)
+    (sym (w .read-inputs .ensures) ∙ got-broken s _ _ (c .before .enum-told3 .given .1)))
 
 cast-step-count : tie.Need-cast-step-count
 cast-step-count c = search needs
@@ -172,7 +174,8 @@ returns-5 c =
     let k = w .before in
     let s = text (start3 k) in
     not-listed s (c .no-list5 .result) (c .no-list5 .ensures)
-    ∙ sym (no-steps s (short (one (two k))) _ _ (got-count (one (two k))) _ _ (got-length (two k)) _ _ (got-inputs k) (sym (w .read-steps .ensures) ∙ got-broken s _ _ (c .before .enum-told4 .given .1)))
+    ∙ sym (no-steps s (short (one (two k))) _ _ (got-count (one (two k))) _ _ (got-length (two k)) _ _ (got-inputs k)
+    (sym (w .read-steps .ensures) ∙ got-broken s _ _ (c .before .enum-told4 .given .1)))
 
 no-list-requires-6 : tie.Need-no-list-requires-6
 no-list-requires-6 c κs = search needs

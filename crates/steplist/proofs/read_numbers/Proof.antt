@@ -43,7 +43,8 @@ got-b : (c : tie.After-known-told2) → let z = start2 c in
 got-b c =
     let w = c .before .before .before in
     let z = start2 c in
-    line-at bKey (text z) (behind-a (one c)) _ (largest (z .args .op) 1) (w .before .largest2 .ensures) _ _ (sym (w .number-line2 .ensures) ∙ c .before .b .given .1)
+    line-at bKey (text z) (behind-a (one c)) _ (largest (z .args .op) 1)
+    (w .before .largest2 .ensures) _ _ (sym (w .number-line2 .ensures) ∙ c .before .b .given .1)
 
 abbrev two : tie.After-known-told3 → tie.After-known-told2
 two c = c .before .before .before .before .before .before
@@ -53,7 +54,8 @@ got-c : (c : tie.After-known-told3) → let z = start2 (two c) in
 got-c c =
     let w = c .before .before .before in
     let z = start2 (two c) in
-    line-at cKey (text z) (behind-b (two c)) _ (largest (z .args .op) 2) (w .before .largest3 .ensures) _ _ (sym (w .number-line3 .ensures) ∙ c .before .c .given .1)
+    line-at cKey (text z) (behind-b (two c)) _ (largest (z .args .op) 2)
+    (w .before .largest3 .ensures) _ _ (sym (w .number-line3 .ensures) ∙ c .before .c .given .1)
 
 slice-aggregate-number-line : tie.Need-slice-aggregate-number-line
 slice-aggregate-number-line c = search needs
@@ -97,7 +99,11 @@ unfolding numbers
 returns-2 c =
     let w = c .before .before in
     let k = w .before .before .before in
-    rw (got-a k, line-not bKey (text (start1 k)) (behind-a k) _ (largest (start1 k .args .op) 1) (w .before .largest2 .ensures) (sym (w .number-line2 .ensures) ∙ c .enum-told2 .given .1))
+    rw (
+      got-a k,
+      line-not bKey (text (start1 k)) (behind-a k) _ (largest (start1 k .args .op) 1)
+          (w .before .largest2 .ensures) (sym (w .number-line2 .ensures) ∙ c .enum-told2 .given .1),
+    )
 
 slice-aggregate-number-line-3 : tie.Need-slice-aggregate-number-line-3
 slice-aggregate-number-line-3 c = search needs
@@ -119,7 +125,12 @@ unfolding numbers
 returns-3 c =
     let w = c .before .before in
     let k = w .before .before .before in
-    rw (got-a (one k), got-b k, line-not cKey (text (start2 k)) (behind-b k) _ (largest (start2 k .args .op) 2) (w .before .largest3 .ensures) (sym (w .number-line3 .ensures) ∙ c .enum-told3 .given .1))
+    rw (
+      got-a (one k),
+      got-b k,
+      line-not cKey (text (start2 k)) (behind-b k) _ (largest (start2 k .args .op) 2)
+          (w .before .largest3 .ensures) (sym (w .number-line3 .ensures) ∙ c .enum-told3 .given .1),
+    )
 
 returns-4 : tie.Need-returns-4
 unfolding numbers
