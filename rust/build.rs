@@ -1,6 +1,6 @@
-//! Finds the proved static library and, with the feature `reference`, the reference's source, which is no part of this repository.
+//! Finds the proved static libraries and, with the feature `reference`, the reference's source, which is no part of this repository.
 //!
-//! - `VOWHERUNGA_STATICLIB`: the folder of libffi.a, in place of target/staticlib at the repository's root.
+//! - `VOWHERUNGA_STATICLIB`: the folder of libffi.a and the others, in place of target/staticlib at the repository's root.
 //! - `REFERENCE_VALUE_RS`: the reference's src/value.rs, in place of ../shared/docs/src/src/value.rs from there.
 use std::{env, fs, path::PathBuf};
 
@@ -13,13 +13,18 @@ fn place(variable: &str, default: &str) -> PathBuf {
     }
 }
 
-fn link_library() {
+/// The crates whose exports the binding calls.
+const LIBRARIES: [&str; 3] = ["ffi", "ffi_answers", "ffi_words"];
+
+fn link_libraries() {
     let folder = place("VOWHERUNGA_STATICLIB", "../target/staticlib");
-    let archive = folder.join("libffi.a");
-    println!("cargo:rerun-if-changed={}", archive.display());
-    assert!(archive.exists(), "no {}: `rt staticlib ffi` makes it", archive.display());
     println!("cargo:rustc-link-search=native={}", folder.display());
-    println!("cargo:rustc-link-lib=static=ffi");
+    for library in LIBRARIES {
+        let archive = folder.join(format!("lib{library}.a"));
+        println!("cargo:rerun-if-changed={}", archive.display());
+        assert!(archive.exists(), "no {}: `rt staticlib {library}` makes it", archive.display());
+        println!("cargo:rustc-link-lib=static={library}");
+    }
 }
 
 /// A module by its path compiles the file as it stands, inner comments too, which `include!` refuses.
@@ -35,7 +40,7 @@ fn name_reference() {
 }
 
 fn main() {
-    link_library();
+    link_libraries();
     if env::var_os("CARGO_FEATURE_REFERENCE").is_some() {
         name_reference();
     }

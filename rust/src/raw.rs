@@ -1,5 +1,5 @@
-//! The exports of the crate `ffi`, as C sees them: a slice is a pointer and a length, a bit its code, a refusal its number (0: done).
-//! Nothing holds these declarations to crates/ffi/src but the tests: they stand in its order, with its names.
+//! The exports of `ffi`, `ffi_answers` and `ffi_words`, as C sees them: a slice is a pointer and a length, a bit its code, a refusal its
+//! number (0: done). Nothing holds these declarations to the crates but the tests: they stand in their order, with their names.
 use crate::{Header, Word};
 
 #[repr(C)]
@@ -23,7 +23,7 @@ pub struct HeaderResult {
     pub is_fill: bool,
 }
 
-// bits.rt
+// ffi/src/bits.rt
 extern "C" {
     pub fn vowherunga_get(width: u32, value: *const u64, value_len: usize, unknown: *const u64, unknown_len: usize, i: usize) -> BitResult;
 
@@ -79,7 +79,7 @@ macro_rules! alike {
     };
 }
 
-// vectors.rt
+// ffi/src/vectors.rt
 alike! {
     VectorOfTwo: vowherunga_bitwise_and, vowherunga_bitwise_or, vowherunga_bitwise_xor, vowherunga_merge_unknown: (
         a: Header,
@@ -128,7 +128,7 @@ extern "C" {
     ) -> HeaderResult;
 }
 
-// answers.rt
+// ffi_answers/src/lib.rt
 alike! {
     BitOfOne: vowherunga_reduce_and, vowherunga_reduce_or, vowherunga_reduce_xor: (
         a: Header,
@@ -171,7 +171,7 @@ alike! {
     ) -> BitResult
 }
 
-// narrow_words.rt
+// ffi_words/src/lib.rt
 alike! {
     WordOfTwo: vowherunga_and_word, vowherunga_or_word, vowherunga_xor_word, vowherunga_merge_word: (a: Word, b: Word) -> Word
 }

@@ -1,13 +1,12 @@
-//! The committed table of the reference's answers is the one that the command in crates/cases/src/main.rt makes.
+//! The committed tables of the reference's answers are those that the command in each program's src/main.rt makes.
 use std::{fs, path::Path};
+use vowherunga::reference::answers::{tables, PROGRAMS};
 
 #[test]
-fn the_table_is_made_anew() {
-    let path = Path::new(env!("CARGO_MANIFEST_DIR")).join("../crates/cases/data/answers");
-    let committed = fs::read(&path).unwrap();
-    assert!(
-        committed == vowherunga::reference::answers::table().into_bytes(),
-        "{} is another file",
-        path.display()
-    );
+fn the_tables_are_made_anew() {
+    for (program, table) in PROGRAMS.iter().zip(tables()) {
+        let path = Path::new(env!("CARGO_MANIFEST_DIR")).join(format!("../crates/{program}/data/answers"));
+        let committed = fs::read(&path).unwrap();
+        assert!(committed == table.into_bytes(), "{} is another file", path.display());
+    }
 }

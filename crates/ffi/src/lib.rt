@@ -1,6 +1,4 @@
-// The entries for C and Rust, as numbers and slices; the crate `coded` says how an answer becomes numbers. Each export asks nothing of its
-// caller and does nothing but call its entry.
-pub mod answers;
+// The entries that read bits or write planes, for C and Rust, as numbers and slices; the crate `coded` says how an answer becomes numbers. Each
+// export asks nothing of its caller and does nothing but call its entry.
 pub mod bits;
-pub mod narrow_words;
 pub mod vectors;

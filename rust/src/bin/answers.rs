@@ -1,6 +1,12 @@
-//! Writes the table of the reference's answers to standard output.
+//! Writes the table of the reference's answers for the program that is named to standard output.
+use std::env;
 use std::io::{self, Write};
+use vowherunga::reference::answers::{tables, PROGRAMS};
 
 fn main() -> io::Result<()> {
-    io::stdout().write_all(vowherunga::reference::answers::table().as_bytes())
+    let name = env::args().nth(1).unwrap_or_default();
+    match PROGRAMS.iter().position(|p| *p == name) {
+        Some(i) => io::stdout().write_all(tables()[i].as_bytes()),
+        None => Err(io::Error::other(format!("name one of {}", PROGRAMS.join(", ")))),
+    }
 }

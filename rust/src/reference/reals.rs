@@ -39,7 +39,7 @@ impl Quotient {
 }
 
 impl fmt::Display for Quotient {
-    /// As the tables of crates/cases have it: r-5/2.
+    /// As the tables of answers have it: r-5/2.
     fn fmt(&self, f: &mut fmt::Formatter) -> fmt::Result {
         let sign = if self.minus { "-" } else { "" };
         write!(f, "r{sign}{}/{}", self.upper, self.lower)

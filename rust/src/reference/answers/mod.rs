@@ -1,4 +1,4 @@
-//! The table of the reference's answers that crates/cases replays without Rust; its lines are told in crates/cases/src/main.rt.
+//! The tables of the reference's answers that three programs replay without Rust; their lines are told in crates/replay/src/lib.rt.
 mod bits;
 mod operators;
 mod text;
@@ -28,11 +28,15 @@ fn stood(rng: &mut Rng, result: &Vector) -> Vector {
     }
 }
 
-/// The whole table: fewer than 65,536 bytes, which is what crates/cases reads.
-pub fn table() -> String {
+/// The programs that replay a table each.
+pub const PROGRAMS: [&str; 3] = ["bit_cases", "vector_cases", "answer_cases"];
+
+/// The table of each program: fewer than 65,536 bytes, which is what a program reads.
+pub fn tables() -> [String; 3] {
     let mut rng = Rng::new(0x616e_7377_6572);
-    let mut lines = Vec::new();
-    bits::lines(&mut rng, &mut lines);
-    operators::lines(&mut rng, &mut lines);
-    lines.iter().map(|line| format!("{line}\n")).collect()
+    [bits::lines, operators::vector_lines, operators::bit_lines].map(|draw| {
+        let mut lines = Vec::new();
+        draw(&mut rng, &mut lines);
+        lines.iter().map(|line| format!("{line}\n")).collect()
+    })
 }

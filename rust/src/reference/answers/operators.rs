@@ -109,7 +109,7 @@ fn vector_line(rng: &mut Rng, name: &str, operands: &str, result: Value) -> Stri
 }
 
 /// The operators that give a vector.
-fn vector_lines(rng: &mut Rng, table: &mut Vec<String>) {
+pub fn vector_lines(rng: &mut Rng, table: &mut Vec<String>) {
     for (name, operator) in BITWISE {
         for width in widths(rng) {
             let (a, b) = pair(rng, width);
@@ -153,8 +153,8 @@ fn lines_of_two(rng: &mut Rng, operators: &[(&str, OfTwo)], pairs: Pairs, table:
     }
 }
 
-pub fn lines(rng: &mut Rng, table: &mut Vec<String>) {
-    vector_lines(rng, table);
+/// The operators that give a bit.
+pub fn bit_lines(rng: &mut Rng, table: &mut Vec<String>) {
     lines_of_one(rng, table);
     lines_of_two(rng, &OF_OPERANDS, operands, table);
     lines_of_two(rng, &OF_VECTORS, pair, table);

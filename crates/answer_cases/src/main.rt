@@ -1,0 +1,41 @@
+// Calls whose answer is a bit, worked by the exports of `ffi_answers` and compared; the crate `replay` tells how a table is written. The table
+// `worked` has cases of document 01 and of each edge; each call that agrees is written, and the file `stdout` holds them. The table `answers`
+// has the reference's answers to drawn inputs, of which those that agree are counted; at the repository's root it is made by
+//
+//     cargo run --offline --manifest-path rust/Cargo.toml --features reference --bin answers answer_cases >crates/answer_cases/data/answers
+mod operators;
+
+use operators::agrees;
+use replay::inner::line_end;
+use replay::inner::report;
+use replay::inner::table;
+use replay::inner::total;
+
+// Works the lines, and counts those that agree.
+fn count(s: &[u8], show: bool) -> u64 {
+    let mut agreed = 0;
+    let mut at = 0;
+    while at < s.len() {
+        let e = line_end(s, at);
+        let line = &s[at..e];
+        if report(line, agrees(line), show) {
+            agreed += 1;
+        }
+        if e == s.len() {
+            return agreed;
+        }
+        at = e + 1;
+    }
+    agreed
+}
+
+fn work(path: &[u8], show: bool) {
+    let mut s = io::large_buffer();
+    let n = table(path, &mut s);
+    total(path, count(&s[0..n], show));
+}
+
+fn main() {
+    work(b"worked", true);
+    work(b"answers", false);
+}

@@ -1,0 +1,113 @@
+// The calls of operators whose answer is a bit, by their numbers in `replay`.
+use coded::BitResult;
+use ffi_answers::vowherunga_case_eq;
+use ffi_answers::vowherunga_casex_eq;
+use ffi_answers::vowherunga_casez_eq;
+use ffi_answers::vowherunga_is_equal;
+use ffi_answers::vowherunga_is_nonzero;
+use ffi_answers::vowherunga_logic_and;
+use ffi_answers::vowherunga_logic_or;
+use ffi_answers::vowherunga_reduce_and;
+use ffi_answers::vowherunga_reduce_or;
+use ffi_answers::vowherunga_reduce_xor;
+use ffi_answers::vowherunga_wildcard_eq;
+use replay::Field;
+use replay::inner::field;
+use replay::inner::plain;
+use value::Header;
+
+// An answer bit of one operand.
+fn of_one(call: usize, a: Field, av: &[u64], au: &[u64]) -> BitResult {
+    let h = a.header;
+    match call {
+        10 => vowherunga_reduce_and(h, av, au),
+        11 => vowherunga_reduce_or(h, av, au),
+        12 => vowherunga_reduce_xor(h, av, au),
+        _ => vowherunga_is_nonzero(a.is_real, h, a.real, av, au),
+    }
+}
+
+// An answer bit of two operands, each a vector or a real.
+fn of_two(
+    call: usize,
+    a: Field,
+    av: &[u64],
+    au: &[u64],
+    b: Field,
+    bv: &[u64],
+    bu: &[u64],
+) -> BitResult {
+    let x = a.header;
+    let y = b.header;
+    match call {
+        14 => vowherunga_logic_and(a.is_real, x, a.real, av, au, b.is_real, y, b.real, bv, bu),
+        15 => vowherunga_logic_or(a.is_real, x, a.real, av, au, b.is_real, y, b.real, bv, bu),
+        _ => vowherunga_is_equal(a.is_real, x, a.real, av, au, b.is_real, y, b.real, bv, bu),
+    }
+}
+
+// An answer bit of two vectors.
+fn of_vectors(
+    call: usize,
+    a: Header,
+    av: &[u64],
+    au: &[u64],
+    b: Header,
+    bv: &[u64],
+    bu: &[u64],
+) -> BitResult {
+    match call {
+        17 => vowherunga_case_eq(a, av, au, b, bv, bu),
+        18 => vowherunga_casez_eq(a, av, au, b, bv, bu),
+        19 => vowherunga_casex_eq(a, av, au, b, bv, bu),
+        _ => vowherunga_wildcard_eq(a, av, au, b, bv, bu),
+    }
+}
+
+// Whether a call gave the answer of its line.
+fn is_answer(f: Field, r: BitResult) -> bool {
+    if r.refusal != 0 {
+        return f.is_refusal && f.number == r.refusal as u64;
+    }
+    let w = f.word;
+    !f.is_refusal && w.value == r.bit as u64 % 2 && w.unknown == r.bit as u64 / 2
+}
+
+// The operators whose left operand is lent.
+fn on_left(call: usize, line: &[u8], a: Field, av: &[u64], au: &[u64]) -> BitResult {
+    if call < 14 {
+        return of_one(call, a, av, au);
+    }
+    let mut value = [0u64; 65];
+    let mut unknown = [0u64; 65];
+    let b = field(line, 4, &mut value, &mut unknown);
+    let m = b.value;
+    let n = b.unknown;
+    let bv = &value[0..m];
+    let bu = &unknown[0..n];
+    if call < 17 {
+        return of_two(call, a, av, au, b, bv, bu);
+    }
+    let x = a.header;
+    let y = b.header;
+    of_vectors(call, x, av, au, y, bv, bu)
+}
+
+// Whether the call of a line has the line's answer.
+pub(crate) fn agrees(line: &[u8]) -> bool {
+    let name = plain(line, 2);
+    let call = name.call;
+    if call < 10 {
+        return false;
+    }
+    if 20 < call {
+        return false;
+    }
+    let mut value = [0u64; 16385];
+    let mut unknown = [0u64; 16385];
+    let a = field(line, 3, &mut value, &mut unknown);
+    let m = a.value;
+    let n = a.unknown;
+    let r = on_left(call, line, a, &value[0..m], &unknown[0..n]);
+    is_answer(plain(line, 0), r)
+}

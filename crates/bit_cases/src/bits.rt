@@ -1,0 +1,106 @@
+// The calls on one vector that is lent for writing, by their numbers in `replay`.
+use crate::answer::Answer;
+use crate::answer::is_answer;
+use crate::answer::of_bit;
+use crate::answer::of_change;
+use crate::answer::of_done;
+use crate::answer::of_vector;
+use crate::answer::of_word;
+use ffi::bits::vowherunga_extract64;
+use ffi::bits::vowherunga_from_u64;
+use ffi::bits::vowherunga_get;
+use ffi::bits::vowherunga_mask_top;
+use ffi::bits::vowherunga_new;
+use ffi::bits::vowherunga_set;
+use ffi::bits::vowherunga_splice64;
+use ffi::bits::vowherunga_zero;
+use ffi::vectors::vowherunga_from_real_wrapped;
+use ffi::vectors::vowherunga_splice_bits64;
+use replay::inner::field;
+use replay::inner::plain;
+use value::Header;
+
+// A field that is a number.
+fn number(line: &[u8], k: usize) -> u64 {
+    let f = plain(line, k);
+    f.number
+}
+
+// Bits and words that are read.
+fn read(call: usize, line: &[u8], width: u32, value: &[u64], unknown: &[u64]) -> Answer {
+    let i = number(line, 4) as usize;
+    let n = number(line, 5) as usize;
+    match call {
+        0 => of_bit(vowherunga_get(width, value, unknown, i)),
+        _ => of_word(vowherunga_extract64(width, value, unknown, i, n)),
+    }
+}
+
+// Bits that are written.
+fn write(call: usize, line: &[u8], h: Header, value: &mut [u64], unknown: &mut [u64]) -> Answer {
+    let i = number(line, 4) as usize;
+    let f = plain(line, 5);
+    let bits = f.word;
+    let v = bits.value;
+    let u = bits.unknown;
+    let n = number(line, 6) as usize;
+    let changed = number(line, 7);
+    match call {
+        2 => of_done(vowherunga_set(h.width, value, unknown, i, (v % 2 + u % 2 * 2) as u8)),
+        3 => of_done(vowherunga_splice64(h.width, value, unknown, i, v, u, n)),
+        _ => of_change(
+            vowherunga_splice_bits64(h, value, unknown, i, v, u, n),
+            changed,
+        ),
+    }
+}
+
+// The vector as a whole.
+fn make(call: usize, line: &[u8], width: u32, value: &mut [u64], unknown: &mut [u64]) -> Answer {
+    let f = plain(line, 4);
+    match call {
+        5 => of_done(vowherunga_mask_top(width, value, unknown)),
+        6 => of_vector(vowherunga_new(width, value, unknown)),
+        7 => of_vector(vowherunga_zero(width, value, unknown)),
+        8 => of_vector(vowherunga_from_u64(f.number, width, value, unknown)),
+        _ => of_vector(vowherunga_from_real_wrapped(f.real, width, value, unknown)),
+    }
+}
+
+fn on_vector(
+    call: usize,
+    line: &[u8],
+    h: Header,
+    value: &mut [u64],
+    unknown: &mut [u64],
+) -> Answer {
+    if call < 2 {
+        return read(call, line, h.width, value, unknown);
+    }
+    if call < 5 {
+        return write(call, line, h, value, unknown);
+    }
+    make(call, line, h.width, value, unknown)
+}
+
+// The calls on the vector that is lent.
+fn on_planes(call: usize, line: &[u8], h: Header, value: &mut [u64], unknown: &mut [u64]) -> bool {
+    let r = on_vector(call, line, h, value, unknown);
+    is_answer(line, r, value, unknown)
+}
+
+// Whether the call of a line has the line's answer.
+pub(crate) fn agrees(line: &[u8]) -> bool {
+    let name = plain(line, 2);
+    let call = name.call;
+    if 9 < call {
+        return false;
+    }
+    let mut value = [0u64; 16385];
+    let mut unknown = [0u64; 16385];
+    let f = field(line, 3, &mut value, &mut unknown);
+    let h = f.header;
+    let m = f.value;
+    let n = f.unknown;
+    on_planes(call, line, h, &mut value[0..m], &mut unknown[0..n])
+}

@@ -1,0 +1,18 @@
+-- The answer is coded by `bit_result`, and the entry ensures the rest.
+use borrow.Author.Needs.{needs}
+use mathlib.Core.Path.{_≡_, ap, _∙_}
+use Rattle.coded.specs.Coded.{codedBit}
+use Rattle.ffi_answers.proofs.vowherunga_case_eq.Statement.{statement}
+use Rattle.ffi_answers.proofs.vowherunga_case_eq.Tie as tie
+
+case-eq-requires : tie.Need-case-eq-requires
+case-eq-requires c κs = search needs
+
+bit-result-requires : tie.Need-bit-result-requires
+bit-result-requires c κs = search needs
+
+returns : tie.Need-returns
+returns c = c .bit-result .ensures ∙ ap codedBit (c .before .case-eq .ensures)
+
+pub vowherunga-case-eq-spec : {M : Type 1} → statement M
+vowherunga-case-eq-spec = tie.close (tie.spec case-eq-requires bit-result-requires returns)
