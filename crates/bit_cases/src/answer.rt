@@ -2,9 +2,9 @@
 use coded::BitResult;
 use coded::HeaderResult;
 use coded::WordResult;
+use replay::Field;
 use replay::holds;
 use replay::inner::field;
-use replay::inner::plain;
 use value::Header;
 use words::Word;
 
@@ -63,7 +63,7 @@ pub(crate) fn of_vector(r: HeaderResult) -> Answer {
 }
 
 // Whether the planes hold the bits of field k of a line.
-fn are_bits(line: &[u8], k: usize, value: &[u64], unknown: &[u64]) -> bool {
+pub(crate) fn are_bits(line: &[u8], k: usize, value: &[u64], unknown: &[u64]) -> bool {
     let mut v = [0u64; 65];
     let mut u = [0u64; 65];
     field(line, k, &mut v, &mut u);
@@ -74,21 +74,15 @@ fn same_header(a: Header, b: Header) -> bool {
     a.width == b.width && a.is_signed == b.is_signed && a.is_fill == b.is_fill
 }
 
-// Whether a call gave the answer of its line and left the planes as that says; a refused call leaves the vector of the line.
-pub(crate) fn is_answer(line: &[u8], a: Answer, value: &[u64], unknown: &[u64]) -> bool {
-    let f = plain(line, 0);
+// Whether a call gave the answer of its line, which is the field f; what it leaves in the planes is not looked at.
+pub(crate) fn is_answer(f: Field, a: Answer) -> bool {
+    let w = f.word;
+    let h = f.header;
     match a {
-        Answer::Bits(w) => {
-            let want = f.word;
-            !f.is_refusal && want.value == w.value && want.unknown == w.unknown
-        }
-        Answer::Left => !f.is_refusal && are_bits(line, 0, value, unknown),
-        Answer::Vector(h) => !f.is_refusal
-            && same_header(f.header, h)
-            && are_bits(line, 0, value, unknown),
-        Answer::Refused(n) => f.is_refusal
-            && f.number == n as u64
-            && are_bits(line, 3, value, unknown),
+        Answer::Bits(x) => !f.is_refusal && w.value == x.value && w.unknown == x.unknown,
+        Answer::Left => !f.is_refusal,
+        Answer::Vector(x) => !f.is_refusal && same_header(h, x),
+        Answer::Refused(n) => f.is_refusal && f.number == n as u64,
         Answer::NoCall => false,
     }
 }

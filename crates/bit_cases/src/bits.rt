@@ -1,5 +1,6 @@
 // The calls on one vector that is lent for writing, by their numbers in `replay`.
 use crate::answer::Answer;
+use crate::answer::are_bits;
 use crate::answer::is_answer;
 use crate::answer::of_bit;
 use crate::answer::of_change;
@@ -41,15 +42,19 @@ fn write(call: usize, line: &[u8], h: Header, value: &mut [u64], unknown: &mut [
     let i = number(line, 4) as usize;
     let f = plain(line, 5);
     let bits = f.word;
-    let v = bits.value;
-    let u = bits.unknown;
     let n = number(line, 6) as usize;
     let changed = number(line, 7);
     match call {
-        2 => of_done(vowherunga_set(h.width, value, unknown, i, (v % 2 + u % 2 * 2) as u8)),
-        3 => of_done(vowherunga_splice64(h.width, value, unknown, i, v, u, n)),
+        2 => of_done(vowherunga_set(
+            h.width,
+            value,
+            unknown,
+            i,
+            (bits.value % 2 + bits.unknown % 2 * 2) as u8,
+        )),
+        3 => of_done(vowherunga_splice64(h.width, value, unknown, i, bits.value, bits.unknown, n)),
         _ => of_change(
-            vowherunga_splice_bits64(h, value, unknown, i, v, u, n),
+            vowherunga_splice_bits64(h, value, unknown, i, bits.value, bits.unknown, n),
             changed,
         ),
     }
@@ -67,6 +72,7 @@ fn make(call: usize, line: &[u8], width: u32, value: &mut [u64], unknown: &mut [
     }
 }
 
+// The call on the vector that is lent.
 fn on_vector(
     call: usize,
     line: &[u8],
@@ -83,13 +89,7 @@ fn on_vector(
     make(call, line, h.width, value, unknown)
 }
 
-// The calls on the vector that is lent.
-fn on_planes(call: usize, line: &[u8], h: Header, value: &mut [u64], unknown: &mut [u64]) -> bool {
-    let r = on_vector(call, line, h, value, unknown);
-    is_answer(line, r, value, unknown)
-}
-
-// Whether the call of a line has the line's answer.
+// Whether the call of a line has the line's answer and leaves the planes as that says: a call that reads or is refused, as they were.
 pub(crate) fn agrees(line: &[u8]) -> bool {
     let name = plain(line, 2);
     let call = name.call;
@@ -102,5 +102,10 @@ pub(crate) fn agrees(line: &[u8]) -> bool {
     let h = f.header;
     let m = f.value;
     let n = f.unknown;
-    on_planes(call, line, h, &mut value[0..m], &mut unknown[0..n])
+    let v = &mut value[0..m];
+    let u = &mut unknown[0..n];
+    let r = on_vector(call, line, h, v, u);
+    let want = plain(line, 0);
+    let k = if want.is_refusal || call < 2 { 3 } else { 0 };
+    is_answer(want, r) && are_bits(line, k, v, u)
 }
