@@ -43,6 +43,8 @@
 //! # }
 //! ```
 //!
+//! Vectors can be kept as the cells of a [`store`], and a whole list of steps on them can be run from its text ([`steps::run`]).
+//!
 //! The feature `reference` adds the Rust program whose behaviour the library keeps, for comparisons; it needs that program's source.
 mod bit;
 pub mod bitwise;
@@ -53,6 +55,8 @@ mod raw;
 pub mod real;
 pub mod reduce;
 mod refusal;
+pub mod steps;
+pub mod store;
 pub mod value;
 
 #[cfg(feature = "reference")]

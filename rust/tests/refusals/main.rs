@@ -3,6 +3,8 @@
 mod lent;
 mod operators;
 mod planes;
+mod run;
+mod store;
 mod table;
 
 use vowherunga::{LogicBit, Refusal};

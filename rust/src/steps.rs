@@ -1,0 +1,162 @@
+//! Step lists: the ops, a step, and the run of a whole list from its text.
+//!
+//! ```
+//! use vowherunga::steps::{run, OUTPUT_BYTES};
+//!
+//! let list = "inputs=2\nsteps=2\nwidth=2\nkind=u\nbits=1x\nwidth=2\nkind=u\nbits=01\n\
+//!     op=and\na=0\nb=1\nc=0\nop=ror\na=2\nb=0\nc=0\n";
+//!
+//! // Memory for the cells and for one result, as much as the program `cones` lends.
+//! let (mut value, mut unknown) = (vec![0; 2048], vec![0; 2048]);
+//! let (mut scratch_value, mut scratch_unknown) = (vec![0; 2048], vec![0; 2048]);
+//! let mut out = Box::new([0; OUTPUT_BYTES]);
+//!
+//! let ran = run(list.as_bytes(), &mut value, &mut unknown, &mut scratch_value, &mut scratch_unknown, &mut out);
+//! assert_eq!(ran.output, "cell=2\nbits=0x\ncell=3\nbits=x\ndone=2\n");
+//!
+//! // The cells are there as well: the last has one bit, which is x.
+//! let last = ran.store.cell(3).unwrap();
+//! assert_eq!(last.header.width, 1);
+//! assert_eq!((&value[last.words()], &unknown[last.words()]), (&[0][..], &[1][..]));
+//! ```
+use crate::raw::store as raw;
+use crate::store::Store;
+use std::fmt;
+
+/// The ops of a step list. Operands are cells: a, then b, then c; c of [`Op::Insert`] is a position.
+#[derive(Clone, Copy, Debug, PartialEq, Eq, Hash)]
+pub enum Op {
+    /// and: [`bitwise_and`](crate::bitwise::bitwise_and)
+    And,
+    /// or: [`bitwise_or`](crate::bitwise::bitwise_or)
+    Or,
+    /// xor: [`bitwise_xor`](crate::bitwise::bitwise_xor)
+    Xor,
+    /// not: [`bitwise_not`](crate::bitwise::bitwise_not)
+    Not,
+    /// mrg: [`merge_unknown`](crate::bitwise::merge_unknown)
+    Merge,
+    /// rand: [`reduce_and`](crate::reduce::reduce_and)
+    ReduceAnd,
+    /// ror: [`reduce_or`](crate::reduce::reduce_or)
+    ReduceOr,
+    /// rxor: [`reduce_xor`](crate::reduce::reduce_xor)
+    ReduceXor,
+    /// eq: [`is_equal`](crate::compare::is_equal)
+    Equal,
+    /// ceq: [`case_eq`](crate::compare::case_eq)
+    CaseEqual,
+    /// cz: [`casez_eq`](crate::compare::casez_eq)
+    CasezEqual,
+    /// cx: [`casex_eq`](crate::compare::casex_eq)
+    CasexEqual,
+    /// weq: [`wildcard_eq`](crate::compare::wildcard_eq)
+    WildcardEqual,
+    /// land: [`logic_and`](crate::reduce::logic_and)
+    LogicAnd,
+    /// lor: [`logic_or`](crate::reduce::logic_or)
+    LogicOr,
+    /// sel: b where a is true, c where it is false, both merged where that is unknown. The arms b and c have one width and are no fills; the
+    /// result is signed if both are.
+    Select,
+    /// ins: the lowest bits of b, at most 64, put into a at position c; what would lie above a is left out. The header is that of a.
+    Insert,
+}
+
+impl Op {
+    pub const ALL: [Op; 17] = [
+        Op::And,
+        Op::Or,
+        Op::Xor,
+        Op::Not,
+        Op::Merge,
+        Op::ReduceAnd,
+        Op::ReduceOr,
+        Op::ReduceXor,
+        Op::Equal,
+        Op::CaseEqual,
+        Op::CasezEqual,
+        Op::CasexEqual,
+        Op::WildcardEqual,
+        Op::LogicAnd,
+        Op::LogicOr,
+        Op::Select,
+        Op::Insert,
+    ];
+
+    const NAMES: [&'static str; 17] = [
+        "and", "or", "xor", "not", "mrg", "rand", "ror", "rxor", "eq", "ceq", "cz", "cx", "weq", "land", "lor", "sel", "ins",
+    ];
+
+    /// The place in [`Op::ALL`].
+    pub fn code(self) -> u8 {
+        self as u8
+    }
+
+    /// The name that a step list has for the op.
+    pub fn name(self) -> &'static str {
+        Op::NAMES[usize::from(self.code())]
+    }
+}
+
+impl fmt::Display for Op {
+    fn fmt(&self, f: &mut fmt::Formatter) -> fmt::Result {
+        f.write_str(self.name())
+    }
+}
+
+/// One step of a list.
+#[derive(Clone, Copy, Debug, PartialEq, Eq, Hash)]
+pub struct Step {
+    pub op: Op,
+    pub a: u32,
+    pub b: u32,
+    pub c: u32,
+}
+
+/// The length of the longest output: 256 cells of 4,096 bits, and a refusal.
+pub const OUTPUT_BYTES: usize = 1_052_436;
+
+/// The store when the run ends, and its output.
+#[derive(Clone, Debug, PartialEq, Eq)]
+pub struct Run<'a> {
+    pub store: Store,
+    pub output: &'a str,
+}
+
+/// Runs the list of a text from an empty store, in lent arenas and scratch planes of any contents. The output has the lines `cell=` and `bits=`
+/// of each step that was run, and then `done=` with their number, or `refused=` with the refusal's number and `step=`: from 1, or 0 for the text
+/// or an input. It stands at the front of `out`. The text is read whole before any step.
+pub fn run<'a>(
+    text: &[u8],
+    arena_value: &mut [u64],
+    arena_unknown: &mut [u64],
+    scratch_value: &mut [u64],
+    scratch_unknown: &mut [u64],
+    out: &'a mut [u8; OUTPUT_BYTES],
+) -> Run<'a> {
+    let mut store = Store::new();
+    // A pointer and a length are those of one slice, which is lent for as long as the call runs; what is lent for writing overlaps nothing.
+    let r = unsafe {
+        raw::vowherunga_run(
+            text.as_ptr(),
+            text.len(),
+            arena_value.as_mut_ptr(),
+            arena_value.len(),
+            arena_unknown.as_mut_ptr(),
+            arena_unknown.len(),
+            scratch_value.as_mut_ptr(),
+            scratch_value.len(),
+            scratch_unknown.as_mut_ptr(),
+            scratch_unknown.len(),
+            &mut store.starts,
+            &mut store.widths,
+            &mut store.signs,
+            &mut store.fills,
+            out,
+        )
+    };
+    store.count = r.count;
+    let output = std::str::from_utf8(&out[..r.length]).unwrap_or_else(|e| unreachable!("the output is ASCII: {e}"));
+    Run { store, output }
+}
