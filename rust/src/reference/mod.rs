@@ -1,10 +1,11 @@
 //! The reference, compiled in place and unmodified, and what every comparison with it needs: a vector that owns its planes, drawn inputs,
-//! reals, and the table of its answers.
+//! reals, the table of its answers, and step lists worked out by it.
 include!(concat!(env!("OUT_DIR"), "/reference.rs"));
 
 pub mod answers;
 pub mod draw;
 pub mod reals;
+pub mod steps;
 
 use crate::{planes, Header};
 use value::{LogicBit, Value, WidePlanes};

@@ -1,0 +1,186 @@
+//! The run of a step list by document 01: cells are vectors, results come from the reference's operators, and what is lent is kept whole, so
+//! that every word of it can be compared.
+use super::list::{digits, List};
+use crate::planes::word_count;
+use crate::reference::value::Value;
+use crate::reference::Vector;
+use crate::steps::{Op, Step};
+
+/// Two arenas and two scratch planes, value before unknown.
+#[derive(Clone, Debug, PartialEq, Eq)]
+pub struct Memory {
+    pub arenas: [Vec<u64>; 2],
+    pub scratch: [Vec<u64>; 2],
+}
+
+impl Memory {
+    /// Memory of zeros: words of each arena and of each scratch plane.
+    pub fn zeros(arenas: usize, scratch: usize) -> Memory {
+        Memory {
+            arenas: [vec![0; arenas], vec![0; arenas]],
+            scratch: [vec![0; scratch], vec![0; scratch]],
+        }
+    }
+}
+
+/// The cells so far, and the memory as they leave it.
+#[derive(Clone, Debug)]
+pub struct Machine {
+    pub cells: Vec<Vector>,
+    pub memory: Memory,
+}
+
+/// A vector's words at a place of two planes.
+fn put(planes: &mut [Vec<u64>; 2], at: usize, v: &Vector) {
+    for (plane, words) in planes.iter_mut().zip([&v.value, &v.unknown]) {
+        plane[at..at + words.len()].copy_from_slice(words);
+    }
+}
+
+/// What an op gives for its operands.
+fn result(op: Op, operand: impl Fn(usize) -> Value, position: u32) -> Value {
+    let of_one = |f: fn(&Value) -> Value| f(&operand(0));
+    let of_two = |f: fn(&Value, &Value) -> Value| f(&operand(0), &operand(1));
+    match op {
+        Op::And => of_two(Value::bitwise_and),
+        Op::Or => of_two(Value::bitwise_or),
+        Op::Xor => of_two(Value::bitwise_xor),
+        Op::Not => of_one(Value::bitwise_not),
+        Op::Merge => of_two(Value::merge_unknown),
+        Op::ReduceAnd => of_one(Value::reduce_and),
+        Op::ReduceOr => of_one(Value::reduce_or),
+        Op::ReduceXor => of_one(Value::reduce_xor),
+        Op::Equal => of_two(Value::is_equal),
+        Op::CaseEqual => of_two(Value::case_eq),
+        Op::CasezEqual => of_two(Value::casez_eq),
+        Op::CasexEqual => of_two(Value::casex_eq),
+        Op::WildcardEqual => of_two(Value::wildcard_eq),
+        Op::LogicAnd => of_two(Value::logic_and),
+        Op::LogicOr => of_two(Value::logic_or),
+        Op::Select => select(&operand(0), operand(1), operand(2)),
+        Op::Insert => insert(operand(0), &operand(1), position),
+    }
+}
+
+fn select(condition: &Value, b: Value, c: Value) -> Value {
+    let is_signed = b.is_signed && c.is_signed;
+    let mut arm = match condition.is_nonzero() {
+        Some(true) => b,
+        Some(false) => c,
+        None => b.merge_unknown(&c),
+    };
+    arm.is_signed = is_signed;
+    arm
+}
+
+fn insert(mut a: Value, b: &Value, position: u32) -> Value {
+    let n = b.width.min(64) as usize;
+    let low = Vector::from(b.clone());
+    a.splice_bits64(position as usize, low.value[0], low.unknown[0], n);
+    a
+}
+
+impl Machine {
+    /// No cells yet.
+    pub fn new(memory: Memory) -> Machine {
+        Machine { cells: Vec::new(), memory }
+    }
+
+    /// The first word behind the last cell.
+    pub fn end(&self) -> usize {
+        self.cells.iter().map(|v| word_count(v.header.width)).sum()
+    }
+
+    /// 14, then 12.
+    fn check(&self) -> Result<(), u8> {
+        let [value, unknown] = &self.memory.arenas;
+        match value.len() == unknown.len() {
+            false => Err(14),
+            true if self.cells.len() >= 320 => Err(12),
+            true => Ok(()),
+        }
+    }
+
+    /// 13 where the arenas are too short; else the word where the next cell begins.
+    fn room(&self, words: usize) -> Result<usize, u8> {
+        let end = self.end();
+        if end + words <= self.memory.arenas[0].len() {
+            Ok(end)
+        } else {
+            Err(13)
+        }
+    }
+
+    /// Adds a vector whose planes are sound; of 1 to 4 only 4 is left.
+    pub fn add_input(&mut self, v: &Vector) -> Result<(), u8> {
+        self.check()?;
+        if v.header.is_fill && v.header.width == 0 {
+            return Err(4);
+        }
+        let at = self.room(v.value.len())?;
+        put(&mut self.memory.arenas, at, v);
+        self.cells.push(v.clone());
+        Ok(())
+    }
+
+    pub fn add_step(&mut self, step: Step) -> Result<(), u8> {
+        self.check()?;
+        let Step { op, a, b, c } = step;
+        let cells = match op {
+            Op::Insert => 2,
+            op => super::operands(op),
+        };
+        let named = [a, b, c].map(|n| n as usize);
+        if named[..cells].iter().any(|n| *n >= self.cells.len()) {
+            return Err(11);
+        }
+        let header = |i: usize| self.cells[named[i]].header;
+        if op == Op::Select && (header(1).width != header(2).width || header(1).is_fill || header(2).is_fill) {
+            return Err(7);
+        }
+        let v = Vector::from(result(op, |i| self.cells[named[i]].to_value(), c));
+        let at = self.room(v.value.len())?;
+        if self.memory.scratch.iter().any(|plane| plane.len() < v.value.len()) {
+            return Err(13);
+        }
+        put(&mut self.memory.scratch, 0, &v);
+        put(&mut self.memory.arenas, at, &v);
+        self.cells.push(v);
+        Ok(())
+    }
+
+    /// Every input and every step, until one is refused: the output's text.
+    fn run(&mut self, list: &List) -> String {
+        let refused = |number: u8, step: usize| format!("refused={number}\nstep={step}\n");
+        for v in &list.inputs {
+            if let Err(number) = self.add_input(v) {
+                return refused(number, 0);
+            }
+        }
+        let mut output = String::new();
+        for (k, step) in list.steps.iter().enumerate() {
+            if let Err(number) = self.add_step(*step) {
+                return output + &refused(number, k + 1);
+            }
+            let cell = self.cells.len() - 1;
+            output += &format!("cell={cell}\nbits={}\n", digits(&self.cells[cell]));
+        }
+        output + &format!("done={}\n", list.steps.len())
+    }
+}
+
+/// The cells and the memory that a run leaves, and its output.
+pub struct Ran {
+    pub machine: Machine,
+    pub output: String,
+}
+
+/// The run of a text in memory of some contents.
+pub fn run(text: &[u8], memory: Memory) -> Ran {
+    let mut machine = Machine::new(memory);
+    let output = match List::read(text) {
+        Some(list) => machine.run(&list),
+        None => "refused=6\nstep=0\n".to_string(),
+    };
+    Ran { machine, output }
+}

@@ -1,0 +1,9 @@
+//! Step lists worked out by the reference's operators: the list as a value, its text, a strict reader, and the run. Nothing here calls the
+//! library.
+mod draw;
+mod list;
+mod machine;
+
+pub use draw::{Drawn, Shape};
+pub use list::{operands, List};
+pub use machine::{run, Machine, Memory, Ran};

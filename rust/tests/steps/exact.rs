@@ -1,0 +1,112 @@
+//! A bit of a step's result is known as b exactly where all completions of the operands give b: worked out by trying them all.
+use crate::alike::{Left, Runs};
+use vowherunga::reference::draw::{low_bits, Rng};
+use vowherunga::reference::steps::Shape;
+use vowherunga::steps::{Op, Step};
+
+/// A cell of at most 64 bits.
+#[derive(Clone, Copy)]
+struct Small {
+    width: usize,
+    value: u64,
+    unknown: u64,
+}
+
+/// A cell that a run left.
+fn small(left: &Left, number: usize) -> Small {
+    let cell = left.store.cell(number).unwrap();
+    let [value, unknown] = left.memory.arenas.each_ref().map(|arena| arena[cell.start]);
+    Small {
+        width: cell.header.width as usize,
+        value,
+        unknown,
+    }
+}
+
+impl Small {
+    /// The numbers that it can be: each unknown bit made 0 or 1.
+    fn completions(self) -> Vec<u64> {
+        let known = self.value & !self.unknown;
+        let mut all = vec![known];
+        let mut chosen = self.unknown;
+        while chosen != 0 {
+            all.push(known | chosen);
+            chosen = (chosen - 1) & self.unknown;
+        }
+        all
+    }
+}
+
+/// What an op has on numbers of some widths; a merge has either.
+fn of_numbers(op: Op, width: [usize; 3], n: [u64; 3], position: u32) -> Vec<u64> {
+    let one = |answer: bool| u64::from(answer);
+    vec![match op {
+        Op::And => n[0] & n[1],
+        Op::Or => n[0] | n[1],
+        Op::Xor => n[0] ^ n[1],
+        Op::Not => !n[0],
+        Op::Merge => return vec![n[0], n[1]],
+        Op::ReduceAnd => one(n[0] == low_bits(width[0])),
+        Op::ReduceOr => one(n[0] != 0),
+        Op::ReduceXor => one(n[0].count_ones() % 2 == 1),
+        Op::Equal => one(n[0] == n[1]),
+        Op::LogicAnd => one(n[0] != 0 && n[1] != 0),
+        Op::LogicOr => one(n[0] != 0 || n[1] != 0),
+        Op::Select => n[if n[0] != 0 { 1 } else { 2 }],
+        Op::Insert if position < 64 => n[0] & !(low_bits(width[1]) << position) | n[1] << position,
+        Op::Insert => n[0],
+        op => panic!("{op} is not exact"),
+    }]
+}
+
+/// The bits that are 1, and those that are 0, in whatever the completions of a step's operands give.
+fn agreed(step: Step, operands: [Small; 3]) -> [u64; 2] {
+    let [a, b, c] = operands.map(Small::completions);
+    let mut agreed = [u64::MAX; 2];
+    for x in &a {
+        for y in &b {
+            for z in &c {
+                for given in of_numbers(step.op, operands.map(|v| v.width), [*x, *y, *z], step.c) {
+                    agreed = [agreed[0] & given, agreed[1] & !given];
+                }
+            }
+        }
+    }
+    agreed
+}
+
+#[test]
+fn known_exactly_where_completions_agree() {
+    let mut rng = Rng::new(55);
+    let mut runs = Runs::new();
+    let mut steps = [0; 17];
+    for _ in 0..6_000 {
+        let shape = Shape::short(&mut rng).keeping_known();
+        let drawn = rng.list(&shape);
+        let memory = rng.memory([drawn.words; 2], [1; 2]);
+        let left = runs.run(drawn.list.text().as_bytes(), &memory);
+        for (k, step) in drawn.list.steps.iter().enumerate() {
+            let nothing = Small {
+                width: 0,
+                value: 0,
+                unknown: 0,
+            };
+            let used = vowherunga::reference::steps::operands(step.op) - usize::from(step.op == Op::Insert);
+            let named = [step.a, step.b, step.c];
+            let operands = [0, 1, 2].map(|i| if i < used { small(&left, named[i] as usize) } else { nothing });
+            if step.op == Op::Equal && operands[0].width != operands[1].width {
+                continue;
+            }
+            let got = small(&left, drawn.list.inputs.len() + k);
+            let is = [got.value & !got.unknown, !got.value & !got.unknown].map(|bits| bits & low_bits(got.width));
+            let want = agreed(*step, operands).map(|bits| bits & low_bits(got.width));
+            assert_eq!(is, want, "the known ones and zeros of step {} of\n{}", k + 1, drawn.list.text());
+            steps[usize::from(step.op.code())] += 1;
+        }
+    }
+    runs.expect(&[("done", 6_000)]);
+    for op in Op::ALL {
+        let is_lossy = matches!(op, Op::CaseEqual | Op::CasezEqual | Op::CasexEqual | Op::WildcardEqual);
+        assert!(is_lossy || steps[usize::from(op.code())] > 500, "{steps:?} steps");
+    }
+}
