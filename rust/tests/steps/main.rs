@@ -3,6 +3,7 @@ mod alike;
 mod calls;
 mod damage;
 mod exact;
+mod files;
 #[path = "../lent/mod.rs"]
 mod lent;
 mod lists;
