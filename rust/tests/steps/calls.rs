@@ -1,9 +1,9 @@
 //! The calls of the store, one after the other, on both sides: wider vectors and more kinds than a list can have.
 use crate::alike::{lend, store_of};
 use vowherunga::reference::draw::Rng;
-use vowherunga::reference::steps::{Machine, Shape};
+use vowherunga::reference::steps::{operands, Machine, Shape};
 use vowherunga::reference::Vector;
-use vowherunga::steps::Step;
+use vowherunga::steps::{Op, Step};
 use vowherunga::store::{Store, Stored};
 use vowherunga::MAX_WIDTH;
 
@@ -52,6 +52,22 @@ impl Pair {
 /// Widths of a store's inputs: few bits, edges, more than a list can have.
 const WIDTHS: [u32; 16] = [0, 1, 2, 3, 4, 5, 63, 64, 65, 66, 127, 128, 129, 4096, 4097, 10_000];
 
+/// A drawn step whose unused numbers are any: a call ignores them.
+fn drawn_step(rng: &mut Rng, shape: &Shape, cells: &[Vector]) -> Step {
+    let Step { op, a, b, c } = rng.step(shape, cells);
+    let any = [rng.next() as u32, rng.next() as u32];
+    match operands(op) {
+        1 => Step {
+            op,
+            a,
+            b: any[0],
+            c: any[1],
+        },
+        2 => Step { op, a, b, c: any[1] },
+        _ => Step { op, a, b, c },
+    }
+}
+
 #[test]
 fn drawn_calls() {
     let mut rng = Rng::new(56);
@@ -67,25 +83,15 @@ fn drawn_calls() {
             store: Store::new(),
             machine: Machine::new(rng.memory([words; 2], [scratch, scratch + 1])),
         };
-        let mut number;
         for _ in 0..24 {
-            (pair, number) = match pair.machine.cells.is_empty() || rng.below(3) == 0 {
-                true => {
-                    let width = rng.choose(&WIDTHS);
-                    let v = rng.operand(width);
-                    pair.input(&v)
-                }
-                false => {
-                    let mut step = rng.step(&shape, &pair.machine.cells);
-                    // what the op does not use is ignored
-                    let any = [rng.next() as u32, rng.next() as u32];
-                    match vowherunga::reference::steps::operands(step.op) {
-                        1 => (step.b, step.c) = (any[0], any[1]),
-                        2 => step.c = any[1],
-                        _ => (),
-                    }
-                    pair.step(step)
-                }
+            let number;
+            (pair, number) = if pair.machine.cells.is_empty() || rng.below(3) == 0 {
+                let width = rng.choose(&WIDTHS);
+                let v = rng.operand(width);
+                pair.input(&v)
+            } else {
+                let step = drawn_step(&mut rng, &shape, &pair.machine.cells);
+                pair.step(step)
             };
             refused[usize::from(number)] += 1;
         }
@@ -93,7 +99,7 @@ fn drawn_calls() {
     assert!([0, 7, 11, 13].iter().all(|n| refused[*n] > 300), "{refused:?} by number");
 }
 
-/// All ops on cells of the widest width, and of one bit less.
+/// Every op on cells of the widest width and of one bit less.
 #[test]
 fn widest_calls() {
     let mut rng = Rng::new(57);
@@ -102,23 +108,19 @@ fn widest_calls() {
         store: Store::new(),
         machine: Machine::new(rng.memory([widest * 12; 2], [widest; 2])),
     };
-    for width in [MAX_WIDTH, MAX_WIDTH - 1, MAX_WIDTH, 1] {
+    for width in [MAX_WIDTH, MAX_WIDTH - 1, MAX_WIDTH] {
         let mut v = rng.operand(width);
         v.header.is_fill = false;
         pair = pair.input(&v).0;
     }
-    for op in vowherunga::steps::Op::ALL {
-        let step = match op {
-            vowherunga::steps::Op::Insert => Step {
-                op,
-                a: 0,
-                b: 1,
-                c: MAX_WIDTH - 63,
-            },
-            op => Step { op, a: 0, b: 2, c: 0 },
+    for op in Op::ALL {
+        let (a, b, c) = match op {
+            Op::Select => (1, 0, 2),
+            Op::Insert => (0, 1, MAX_WIDTH - 63),
+            _ => (0, 1, 0),
         };
         let number;
-        (pair, number) = pair.step(step);
-        assert_eq!(number, 0, "{step:?}");
+        (pair, number) = pair.step(Step { op, a, b, c });
+        assert_eq!(number, 0, "{op}");
     }
 }
