@@ -71,3 +71,53 @@ fn longest_output() {
     assert_eq!(left.output.len(), 256 * longest_line - shorter + "done=256\n".len());
     runs.expect(&[("done", 1)]);
 }
+
+/// Lists at the limits of the format, and just beyond them.
+#[test]
+fn limits() {
+    let mut rng = Rng::new(58);
+    let mut runs = Runs::new();
+    let within: [(usize, usize, &'static [u32]); 3] = [(64, 256, &[1]), (1, 1, &[4096]), (3, 4, &[4095])];
+    let beyond: [(usize, usize, &'static [u32]); 4] = [(65, 0, &[1]), (65, 256, &[1]), (1, 257, &[1]), (1, 1, &[4097])];
+    for (inputs, steps, widths) in within.into_iter().chain(beyond) {
+        let shape = Shape {
+            inputs,
+            steps,
+            widths,
+            ..Shape::short(&mut rng)
+        };
+        let list = rng.list(&shape).list;
+        let left = runs.compare(list.text().as_bytes(), &Memory::zeros(2048, 2048));
+        let is_within = within.contains(&(inputs, steps, widths));
+        assert_eq!(
+            left.output != "refused=6\nstep=0\n",
+            is_within,
+            "{inputs} inputs, {steps} steps, {widths:?}"
+        );
+    }
+    runs.expect(&[("done", 3), ("refused=6", 4)]);
+}
+
+/// A list of so many bytes: fifteen inputs of 4,096 bits, and one that fills up.
+fn list_of(bytes: usize) -> String {
+    let input = |width: usize| format!("width={width}\nkind=s\nbits={}\n", "z".repeat(width));
+    let list = |last: usize| {
+        format!(
+            "inputs=16\nsteps=1\n{}{}op=ror\na=0\nb=0\nc=0\n",
+            input(4096).repeat(15),
+            input(last)
+        )
+    };
+    list(1000 + bytes - list(1000).len())
+}
+
+#[test]
+fn longest_text() {
+    let mut runs = Runs::new();
+    for (bytes, want) in [(65_535, "done=1\n"), (65_536, "done=1\n"), (65_537, "refused=6\nstep=0\n")] {
+        let text = list_of(bytes);
+        assert_eq!(text.len(), bytes);
+        let left = runs.compare(text.as_bytes(), &Memory::zeros(2048, 2048));
+        assert!(left.output.ends_with(want), "{bytes} bytes");
+    }
+}
