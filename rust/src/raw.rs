@@ -1,6 +1,6 @@
-//! The exports of the crate `ffi`, as C sees them: a slice is a pointer and a length, a bit its code, a refusal its number (0: done).
-//! Nothing holds these declarations to crates/ffi/src but the tests: they stand in its order, with its names. The exports of the crate
-//! `ffi_store` stand in [`store`].
+//! The exports of `ffi`, `ffi_answers` and `ffi_words`, as C sees them: a slice is a pointer and a length, a bit its code, a refusal its
+//! number (0: done). Nothing holds these declarations to the crates but the tests: they stand in their order, with their names. The exports
+//! of `ffi_store` stand in [`store`].
 use crate::{Header, Word};
 
 pub mod store;

@@ -35,14 +35,14 @@ pub put-byte : (d : List ℕ) (i b : ℕ) → i < length d → buffer (set d i b
 unfolding put
 put-byte d i b h = same (set-split d i b h ∙ sym (rw add-one (append-snoc (take i d) b (drop (suc i) d)))) refl
 
-pub put-put : (d : List ℕ) (i : ℕ) (v w : List ℕ) → i + length (v ++ w) ≤ length d → put (put (buffer d i) v) w ≡ put (buffer d i) (v ++ w)
+pub put-put : (d : List ℕ) (i : ℕ) (v w : List ℕ) → i ≤ length d → put (put (buffer d i) v) w ≡ put (buffer d i) (v ++ w)
 unfolding put
 put-put d i v w h =
     let l : length (v ++ w) ≡ length v + length w = length-append v w in
     let p : List ℕ = take i d ++ v in
     let q : List ℕ = drop (i + length v) d in
     let r : List ℕ = drop (i + length (v ++ w)) d in
-    let lp : length p ≡ i + length v = length-append (take i d) v ∙ ap (λ (k : ℕ). k + length v) (length-take-le i d (omega arith)) in
+    let lp : length p ≡ i + length v = length-append (take i d) v ∙ ap (λ (k : ℕ). k + length v) (length-take-le i d h) in
     let n : i + length v + length w ≡ i + length (v ++ w) = omega arith in
     let e : drop (i + length v + length w) (p ++ q) ≡ r =
     ap (λ (k : ℕ). drop (k + length w) (p ++ q)) (sym lp)
@@ -58,7 +58,7 @@ put-put d i v w h =
 
 -- a writer behind a writer
 pub after : (d : List ℕ) (i : ℕ) (v w : List ℕ) {e f : List ℕ} {j k : ℕ} → buffer e j ≡ put (buffer d i) v → buffer f k ≡ put (buffer e j) w
-    → i + length (v ++ w) ≤ length d → buffer f k ≡ put (buffer d i) (v ++ w)
+    → i ≤ length d → buffer f k ≡ put (buffer d i) (v ++ w)
 after d i v w p q h = q ∙ ap (λ (b : Buffer). put b w) p ∙ put-put d i v w h
 
 -- where a writer ends
@@ -68,11 +68,8 @@ place-of d i v p = ap (λ (b : Buffer). b .place) p
 
 -- a line: a key, what stands behind it, LF
 pub three : (d : List ℕ) (i : ℕ) (u v w : List ℕ) {e f g : List ℕ} {j k l : ℕ} → buffer e j ≡ put (buffer d i) u → buffer f k ≡ put (buffer e j) v → buffer g l ≡ put (buffer f k) w
-    → i + (length u + length v + length w) ≤ length d → buffer g l ≡ put (buffer d i) (u ++ (v ++ w))
-three d i u v w p q r h =
-    let a = length-append u v in
-    let b = length-append (u ++ v) w in
-    after d i (u ++ v) w (after d i u v p q (omega arith)) r (omega arith) ∙ ap (put (buffer d i)) (append-assoc u v w)
+    → i ≤ length d → buffer g l ≡ put (buffer d i) (u ++ (v ++ w))
+three d i u v w p q r h = after d i (u ++ v) w (after d i u v p q h) r h ∙ ap (put (buffer d i)) (append-assoc u v w)
 
 -- ---- the bytes of a slice
 

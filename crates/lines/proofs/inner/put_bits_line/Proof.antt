@@ -61,7 +61,7 @@ returns c =
     let s = w .before .before .before .before .before .before in
     let a = s .args in
     three (a .out .now) (a .at) (a .key .now) (text s) lineEnd (w .put-bytes .ensures) (v .put-bits .ensures) (x .put-bytes2 .ensures)
-    (omega (arith, s .pre .0, long s))
+    (omega (arith, s .pre .0))
 
 pub put-bits-line-spec : {M : Type 1} → statement M
 put-bits-line-spec =

@@ -50,7 +50,7 @@ returns c =
     let s = w .before .before .before .before in
     let a = s .args in
     three (a .out .now) (a .at) (a .key .now) (decimal (a .n)) lineEnd (w .put-bytes .ensures) (v .put-number .ensures) (x .put-bytes2 .ensures)
-    (omega (arith, length-line (a .key .now) (a .n), s .pre))
+    (omega (arith, s .pre))
 
 pub put-number-line-spec : {M : Type 1} → statement M
 put-number-line-spec =

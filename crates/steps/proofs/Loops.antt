@@ -1,0 +1,135 @@
+-- What is left of a list, once its first inputs or steps are done: the invariants of the two loops of a run.
+--     feed-start, feed-more, feed-last, feed-done       the inputs
+--     walk-start, walk-more, walk-last, walk-done       the steps
+use mathlib.Core.Path.{_≡_, refl, sym, ap, ap₂, _∙_, subst}
+use mathlib.Core.List.{List, [], _∷_}
+use Prim.Native.Nat.{ℕ, suc, _+_, _*_, _≤_, _<_}
+use native.Mathlib.Numerals.{add-one}
+use native.Mathlib.Omega.{arith}
+use lib.ListN.{length, drop, drop-of-length-le}
+use lib.Seq.{drop-cons}
+use Rattle.refusal.specs.Outcome.{Answer, Outcome, outcome, orRefuse}
+use Rattle.refusal.specs.Outcome.Answer.{given, refused}
+use Rattle.words.specs.Vector.{tabulate}
+use Rattle.words.specs.Planes.{planesOf}
+use Rattle.words.proofs.Planes.{length-tabulate, getD-tabulate}
+use Rattle.value.specs.Checks.{Vector, vector}
+use Rattle.lines.specs.Buffer.{Buffer, buffer, put}
+use Rattle.output.specs.Output.{doneText}
+use Rattle.ops.specs.declared.Step.{Step}
+use Rattle.store.specs.Store.{State, state, appended, checkInput}
+use Rattle.store.specs.Step.{Memory, checkMemory, stepVector, stepped, addStep}
+use Rattle.steps.specs.Run.{stepText, runSteps, addListed, addInputs, written, writtenBy}
+use Rattle.steps.specs.Limits.{Thin, Narrow}
+use Rattle.steps.proofs.Turns.{steps-done, step-turn, step-last, inputs-done, input-turn, input-last}
+use Rattle.steps.proofs.Narrow.{narrow-put, step-narrow}
+
+module _ {A : Type 0} (n : ℕ) (f : ℕ → A) (i : ℕ) where
+  next-one : i < n → drop i (tabulate n f) ≡ f i ∷ drop (i + 1) (tabulate n f)
+  next-one h =
+      let l : i < length (tabulate n f) = omega (arith, length-tabulate n f) in
+      drop-cons (tabulate n f) i (f i) l
+      ∙ ap₂ (λ (x : A) (k : ℕ). x ∷ drop k (tabulate n f)) (getD-tabulate n f i (f i) h) (sym (add-one i))
+
+  none-left : n ≤ i → drop i (tabulate n f) ≡ []
+  none-left h = drop-of-length-le (tabulate n f) {i = i} (omega (arith, length-tabulate n f))
+
+-- ---- the inputs
+
+listed-narrow : (s : State) (v : Vector) → Narrow (s .store) → Thin (v .header) → Narrow (addListed s v .left .store)
+listed-narrow s v n t = go (checkInput s (v .header) (planesOf (v .bits)))
+  where
+    go : (x : Answer Unit) → Narrow (orRefuse x s (outcome (given (s .store .count)) (appended (vector (v .header) (planesOf (v .bits))) s)) .left .store)
+    go (given u) = narrow-put (v .header) (s .store) n t
+    go (refused k) = n
+
+-- the state s with the inputs from i on has the outcome of the state `from` with all n of them
+pub record Fed (from : State) (n : ℕ) (f : ℕ → Vector) (s : State) (i : ℕ) : Type 0 where
+  pub narrow : Narrow (s .store)
+  pub left : addInputs from (tabulate n f) ≡ addInputs s (drop i (tabulate n f))
+
+module _ (n : ℕ) (f : ℕ → Vector) where
+  pub feed-start : (from s : State) → s ≡ from → Narrow (from .store) → Fed from n f s 0
+  feed-start from s e t = subst (λ (z : State). Fed from n f z 0) (sym e) (record { narrow = t; left = refl })
+
+  module _ (from s : State) (i : ℕ) (h : Fed from n f s i) where
+    pub feed-done : n ≤ i → outcome (given tt) s ≡ addInputs from (tabulate n f)
+    feed-done l = sym (h .left ∙ ap (addInputs s) (none-left n f i l) ∙ inputs-done s)
+
+    module _ (l : i < n) where
+      onto : addInputs from (tabulate n f) ≡ addInputs s (f i ∷ drop (i + 1) (tabulate n f))
+      onto = h .left ∙ ap (addInputs s) (next-one n f i l)
+
+      pub feed-more : (k : ℕ) (t : State) → outcome (given k) t ≡ addListed s (f i) → Thin (f i .header) → Fed from n f t (i + 1)
+      feed-more k t e thin =
+          subst (λ (z : State). Fed from n f z (i + 1)) (sym (ap (λ (o : Outcome ℕ State). o .left) e)) (record {
+            narrow = listed-narrow s (f i) (h .narrow) thin;
+            left = onto ∙ input-turn s (f i) (drop (i + 1) (tabulate n f)) k (sym (ap (λ (o : Outcome ℕ State). o .answer) e));
+          })
+
+      pub feed-last : (k : ℕ) (t : State) → outcome (refused k) t ≡ addListed s (f i) → Thin (f i .header)
+          → (outcome (refused k) t ≡ addInputs from (tabulate n f)) × Narrow (t .store)
+      feed-last k t e thin = (
+        ap (λ (z : State). outcome (refused k) z) (ap (λ (o : Outcome ℕ State). o .left) e)
+            ∙ sym (onto ∙ input-last s (f i) (drop (i + 1) (tabulate n f)) k (sym (ap (λ (o : Outcome ℕ State). o .answer) e))),
+        subst (λ (z : State). Narrow (z .store)) (sym (ap (λ (o : Outcome ℕ State). o .left) e)) (listed-narrow s (f i) (h .narrow) thin),
+      )
+
+-- ---- the steps
+
+stepped-narrow : (m : Memory) (step : Step) → Narrow (m .state .store) → Narrow (addStep m step .left .state .store)
+stepped-narrow m step n = go (checkMemory m step)
+  where
+    go : (x : Answer Unit) → Narrow (orRefuse x m (outcome (given (m .state .store .count)) (stepped (stepVector (m .state) step) m)) .left .state .store)
+    go (given u) = narrow-put (stepVector (m .state) step .header) (m .state .store) n (step-narrow (m .state) step n)
+    go (refused k) = n
+
+-- the memory m and the place `at` of the buffer, with the steps from k on, leave what the memory `from` leaves with all n of them
+pub record Walked (from : Memory) (out : List ℕ) (n : ℕ) (f : ℕ → Step) (m : Memory) (d : List ℕ) (at k : ℕ) : Type 0 where
+  pub narrow : Narrow (m .state .store)
+  pub short : at ≤ k * 4111
+  pub long : length d ≡ length out
+  pub left : writtenBy (runSteps from 0 (tabulate n f)) (buffer out 0) ≡ writtenBy (runSteps m k (drop k (tabulate n f))) (buffer d at)
+
+module _ (n : ℕ) (f : ℕ → Step) (from : Memory) (out : List ℕ) where
+  pub walk-start : Narrow (from .state .store) → Walked from out n f from out 0 0
+  walk-start t = record { narrow = t; short = omega arith; long = refl; left = refl }
+
+  module _ (m : Memory) (d : List ℕ) (at k : ℕ) (h : Walked from out n f m d at k) where
+    pub walk-done : n ≤ k → writtenBy (runSteps from 0 (tabulate n f)) (buffer out 0) ≡ written m (put (buffer d at) (doneText k))
+    walk-done l = h .left ∙ ap (λ ss. writtenBy (runSteps m k ss) (buffer d at)) (none-left n f k l) ∙ steps-done m k d at
+
+    module _ (l : k < n) where
+      abbrev rest : List Step
+      rest = drop (k + 1) (tabulate n f)
+
+      onto-step : writtenBy (runSteps from 0 (tabulate n f)) (buffer out 0) ≡ writtenBy (runSteps m k (f k ∷ rest)) (buffer d at)
+      onto-step = h .left ∙ ap (λ ss. writtenBy (runSteps m k ss) (buffer d at)) (next-one n f k l)
+
+      module _ (a : Answer ℕ) (t : Memory) (e : List ℕ) (j : ℕ) (called : outcome a t ≡ addStep m (f k))
+          (shown : buffer e j ≡ put (buffer d at) (stepText a k (stepVector (m .state) (f k) .bits))) where
+        pub walk-more : (c : ℕ) → a ≡ given c → at ≤ length d → j ≤ at + 4111 → length e ≡ length d → Walked from out n f t e j (k + 1)
+        walk-more c g inside short same =
+            let left : addStep m (f k) .left ≡ t = sym (ap (λ (o : Outcome ℕ Memory). o .left) called) in
+            let answer : addStep m (f k) .answer ≡ given c = sym (ap (λ (o : Outcome ℕ Memory). o .answer) called) ∙ g in
+            let text : put (buffer d at) (stepText (given c) k (stepVector (m .state) (f k) .bits)) ≡ buffer e j =
+            sym (shown ∙ ap (λ x. put (buffer d at) (stepText x k (stepVector (m .state) (f k) .bits))) g)
+            in
+            record {
+              narrow = subst (λ (z : Memory). Narrow (z .state .store)) left (stepped-narrow m (f k) (h .narrow));
+              short = omega (arith, short, h .short);
+              long = same ∙ h .long;
+              left =
+                  onto-step
+                  ∙ step-turn m k d at (f k) rest c answer inside
+                  ∙ ap₂ (λ (z : Memory) (b : Buffer). writtenBy (runSteps z (suc k) rest) b) left text
+                  ∙ ap (λ (i : ℕ). writtenBy (runSteps t i rest) (buffer e j)) (sym (add-one k));
+            }
+
+        pub walk-last : (r : ℕ) → a ≡ refused r → writtenBy (runSteps from 0 (tabulate n f)) (buffer out 0) ≡ written t (buffer e j)
+        walk-last r g =
+            let left : addStep m (f k) .left ≡ t = sym (ap (λ (o : Outcome ℕ Memory). o .left) called) in
+            let answer : addStep m (f k) .answer ≡ refused r = sym (ap (λ (o : Outcome ℕ Memory). o .answer) called) ∙ g in
+            onto-step
+            ∙ step-last m k d at (f k) rest r answer
+            ∙ ap₂ written left (sym (shown ∙ ap (λ x. put (buffer d at) (stepText x k (stepVector (m .state) (f k) .bits))) g))

@@ -1,0 +1,227 @@
+-- `steps::inner::run_steps`: what is left to do is the steps from the k-th on.
+use mathlib.Core.Path.{_≡_, refl, sym, ap, _∙_}
+use mathlib.Core.List.{List}
+use Prim.Native.Nat.{ℕ, _-_, _≤_, _<_}
+use native.Mathlib.Omega.{arith}
+use lib.ListN.{length, getD}
+use Rattle.refusal.specs.Refusals.{refusalNumber}
+use Rattle.refusal.specs.Outcome.{outcome}
+use Rattle.words.specs.Planes.{lent}
+use Rattle.lines.specs.Buffer.{buffer, put}
+use Rattle.ops.specs.declared.Step.{Step}
+use Rattle.store.specs.declared.Store.{Store}
+use Rattle.store.specs.Store.{state, cellAnswer}
+use Rattle.output.specs.Output.{doneText}
+use Rattle.store.specs.Step.{Memory, memory, stepVector, addStep}
+use Rattle.steplist.specs.declared.StepList.{StepList}
+use Rattle.steplist.specs.Answers.{noStep}
+use Rattle.steps.specs.Run.{stepText, written}
+use Rattle.steps.proofs.Loops.{Walked, walk-start, walk-more, walk-last, walk-done}
+use borrow.Author.Needs.{needs}
+use Rattle.steps.proofs.inner.run_steps.Statement.{statement}
+use Rattle.steps.proofs.inner.run_steps.Tie as tie
+
+abbrev held : Store → (av au sv su : List ℕ) → Memory
+held s av au sv su = memory (state s (lent av au)) (lent sv su)
+
+abbrev step : StepList → ℕ → Step
+step l k = getD (l .steps) k noStep
+
+record Inv (av₀ au₀ sv₀ su₀ out₀ : List ℕ) (l : StepList) (n : ℕ) (s₀ : Store) (av au sv su out : List ℕ) (s : Store) (at k : ℕ) : Type 0 where
+  value-long : length av ≡ length av₀
+  unknown-long : length au ≡ length au₀
+  scratch-value-long : length sv ≡ length sv₀
+  scratch-unknown-long : length su ≡ length su₀
+  out-long : length out ≡ length out₀
+  within : k ≤ n
+  walked : Walked (held s₀ av₀ au₀ sv₀ su₀) out₀ n (step l) (held s av au sv su) out at k
+
+abbrev Inv-loop : tie.InvT-loop
+Inv-loop arena-value₀ arena-unknown₀ scratch-value₀ scratch-unknown₀ out₀ list n s₀ at₀ k₀ arena-value arena-unknown scratch-value scratch-unknown out s at k =
+    Inv arena-value₀ arena-unknown₀ scratch-value₀ scratch-unknown₀ out₀ list n s₀ arena-value arena-unknown scratch-value scratch-unknown out s at k
+
+abbrev μ-loop : tie.MeasureT-loop
+μ-loop arena-value₀ arena-unknown₀ scratch-value₀ scratch-unknown₀ out₀ list n s₀ at₀ k₀ arena-value arena-unknown scratch-value scratch-unknown out s at k = n - k
+
+abbrev entered : tie.Start Inv-loop μ-loop → Memory
+entered s = let a = s .args in held (a .from) (a .arena-value .now) (a .arena-unknown .now) (a .scratch-value .now) (a .scratch-unknown .now)
+
+-- in a turn, once the step is run
+module _ (a : tie.After-run-step Inv-loop μ-loop) where
+  abbrev l : tie.At-loop Inv-loop μ-loop
+  l = a .before .before .before .before .before .before .before .before
+
+  abbrev st : tie.Start Inv-loop μ-loop
+  st = l .before .before .before .before .before .before
+
+  abbrev m : Memory
+  m = held (l .loop .s) (l .loop .arena-value) (l .loop .arena-unknown) (l .loop .scratch-value) (l .loop .scratch-unknown)
+
+  abbrev left : Memory
+  left =
+      let r = a .run-step .last .1 .1 .1 in
+      held (a .run-step .result .stored .store) (r .0) (r .1 .0) (r .1 .1 .0) (r .1 .1 .1 .0)
+
+  abbrev place : ℕ
+  place = l .loop .k
+
+  -- the step's answer and its lines
+  called : outcome (cellAnswer (a .run-step .result .stored .answer)) left ≡ addStep m (step (st .args .t1) place)
+  called = a .run-step .ensures .0
+
+  shown : buffer (a .run-step .last .1 .1 .1 .1 .1 .1 .1 .0) (a .run-step .result .at)
+      ≡ put (buffer (l .loop .out) (l .loop .at)) (stepText (cellAnswer (a .run-step .result .stored .answer)) place (stepVector (m .state) (step (st .args .t1) place) .bits))
+  shown = a .run-step .ensures .1 .0
+
+  inside : l .loop .k < st .args .t1 .«step_count»
+  inside = a .before .before .before .before .before .before .before .loop-test .taken
+
+loop-holds : tie.Need-loop-holds Inv-loop μ-loop
+loop-holds c =
+    let s = c .before .before .before .before .before in
+    record {
+      value-long = refl;
+      unknown-long = refl;
+      scratch-value-long = refl;
+      scratch-unknown-long = refl;
+      out-long = refl;
+      within = omega arith;
+      walked = walk-start (s .args .t1 .«step_count») (step (s .args .t1)) (entered s) (s .args .out .now) (s .pre .1);
+    }
+
+mul-step : tie.Need-mul-step Inv-loop μ-loop
+mul-step c = omega (arith, c .loop-test .taken, c .before .before .before .before .before .before .before .pre .0 .0)
+
+element-copy-out-step : tie.Need-element-copy-out-step Inv-loop μ-loop
+element-copy-out-step c = omega (arith, c .loop-test .taken, c .before .before .before .before .before .before .before .pre .0 .0)
+
+cast-run-step : tie.Need-cast-run-step Inv-loop μ-loop
+cast-run-step c = omega (arith, c .before .loop-test .taken, c .before .before .before .before .before .before .before .before .pre .0 .0)
+
+run-step-requires : tie.Need-run-step-requires Inv-loop μ-loop
+run-step-requires c κs =
+    let l = c .before .before .before .before .before .before .before in
+    let p = l .before .before .before .before .before .before .pre .0 in
+    let i = l .loop .inv .walked in
+    let t = c .before .before .before .before .before .before .loop-test .taken in
+    (i .narrow, (omega (arith, t, p .0), omega (arith, t, p .0, p .1, i .short, i .long)))
+
+enum-told : tie.Need-enum-told Inv-loop μ-loop
+enum-told c = search needs
+
+same-length : tie.Need-same-length Inv-loop μ-loop
+same-length c = search needs
+
+same-length-2 : tie.Need-same-length-2 Inv-loop μ-loop
+same-length-2 c = search needs
+
+same-length-3 : tie.Need-same-length-3 Inv-loop μ-loop
+same-length-3 c = search needs
+
+same-length-4 : tie.Need-same-length-4 Inv-loop μ-loop
+same-length-4 c = search needs
+
+same-length-5 : tie.Need-same-length-5 Inv-loop μ-loop
+same-length-5 c = search needs
+
+returns : tie.Need-returns Inv-loop μ-loop
+returns c =
+    let a = c .before .before .before .before .before .before .before .before .before .before .before .before .before .before in
+    sym (walk-last (st a .args .t1 .«step_count») (step (st a .args .t1)) (entered (st a)) (st a .args .out .now) (m a) (l a .loop .out) (l a .loop .at) (l a .loop .k) (l a .loop .inv .walked) (inside a)
+    (cellAnswer (a .run-step .result .stored .answer)) (left a) (a .run-step .last .1 .1 .1 .1 .1 .1 .1 .0) (a .run-step .result .at) (called a) (shown a)
+    (refusalNumber (c .enum-told .given .0 .0)) (ap cellAnswer (c .enum-told .given .1)))
+
+enum-told-2 : tie.Need-enum-told-2 Inv-loop μ-loop
+enum-told-2 c = search needs
+
+add-k : tie.Need-add-k Inv-loop μ-loop
+add-k c = let a = c .before .before .before .before .before .before .before .before .before .before .before .before .before .before in omega (arith, inside a, st a .pre .0 .0)
+
+loop-less : tie.Need-loop-less Inv-loop μ-loop
+loop-less c = let a = c .before .before .before .before .before .before .before .before .before .before .before .before .before .before in omega (arith, inside a)
+
+loop-again : tie.Need-loop-again Inv-loop μ-loop
+loop-again c =
+    let a = c .before .before .before .before .before .before .before .before .before .before .before .before .before .before in
+    let i = l a .loop .inv .walked in
+    let same : length (a .run-step .last .1 .1 .1 .1 .1 .1 .1 .0) ≡ length (l a .loop .out) = search needs in
+    record {
+      value-long = search needs;
+      unknown-long = search needs;
+      scratch-value-long = search needs;
+      scratch-unknown-long = search needs;
+      out-long = same ∙ l a .loop .inv .out-long;
+      within = omega (arith, inside a);
+      walked =
+          walk-more (st a .args .t1 .«step_count») (step (st a .args .t1)) (entered (st a)) (st a .args .out .now) (m a) (l a .loop .out) (l a .loop .at) (l a .loop .k) (l a .loop .inv .walked) (inside a)
+          (cellAnswer (a .run-step .result .stored .answer)) (left a) (a .run-step .last .1 .1 .1 .1 .1 .1 .1 .0) (a .run-step .result .at) (called a) (shown a)
+          (c .enum-told2 .given .0 .0) (ap cellAnswer (c .enum-told2 .given .1)) (omega (arith, inside a, st a .pre .0 .0, st a .pre .0 .1, i .short, i .long)) (a .run-step .ensures .1 .1) same;
+    }
+
+cast-put-done : tie.Need-cast-put-done Inv-loop μ-loop
+cast-put-done c = omega (arith, c .before .before .before .before .before .before .before .before .pre .0 .0)
+
+put-done-requires : tie.Need-put-done-requires Inv-loop μ-loop
+put-done-requires c κs =
+    let l = c .before .before in
+    let p = l .before .before .before .before .before .before .pre .0 in
+    let i = l .loop .inv in
+    (omega (arith, p .0), omega (arith, p .0, p .1, i .within, i .walked .short, i .walked .long))
+
+same-length-6 : tie.Need-same-length-6 Inv-loop μ-loop
+same-length-6 c = search needs
+
+same-length-7 : tie.Need-same-length-7 Inv-loop μ-loop
+same-length-7 c = search needs
+
+same-length-8 : tie.Need-same-length-8 Inv-loop μ-loop
+same-length-8 c = search needs
+
+same-length-9 : tie.Need-same-length-9 Inv-loop μ-loop
+same-length-9 c = search needs
+
+same-length-10 : tie.Need-same-length-10 Inv-loop μ-loop
+same-length-10 c = search needs
+
+returns-2 : tie.Need-returns-2 Inv-loop μ-loop
+returns-2 c =
+    let d = c .before .before in
+    let l = d .before .before .before in
+    let s = l .before .before .before .before .before .before in
+    let g = s .args in
+    let i = l .loop .inv in
+    let m = held (l .loop .s) (l .loop .arena-value) (l .loop .arena-unknown) (l .loop .scratch-value) (l .loop .scratch-unknown) in
+    let e : l .loop .k ≡ g .t1 .«step_count» = omega (arith, i .within, c .before .before .before .before .loop-test .left) in
+    sym (walk-done (g .t1 .«step_count») (step (g .t1)) (entered s) (g .out .now) m (l .loop .out) (l .loop .at) (l .loop .k) (i .walked) (c .before .before .before .before .loop-test .left)
+    ∙ ap (λ k. written m (put (buffer (l .loop .out) (l .loop .at)) (doneText k))) e ∙ ap (written m) (sym (d .put-done .ensures)))
+
+pub run-steps-spec : {M : Type 1} → statement M
+run-steps-spec =
+    tie.close
+    (tie.spec
+    Inv-loop
+    μ-loop
+    loop-holds
+    mul-step
+    element-copy-out-step
+    cast-run-step
+    run-step-requires
+    enum-told
+    same-length
+    same-length-2
+    same-length-3
+    same-length-4
+    same-length-5
+    returns
+    enum-told-2
+    add-k
+    loop-less
+    loop-again
+    cast-put-done
+    put-done-requires
+    same-length-6
+    same-length-7
+    same-length-8
+    same-length-9
+    same-length-10
+    returns-2)

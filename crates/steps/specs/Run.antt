@@ -1,0 +1,101 @@
+-- Document 01, "Step list": the run of a list on a memory, and what it writes. Each input and each step gets the memory as the one before left it.
+use mathlib.Core.List.{List, [], _∷_, _++_}
+use Prim.Native.Nat.{ℕ, suc}
+use Rattle.bit.specs.declared.LogicBit.{LogicBit}
+use Rattle.refusal.specs.Outcome.{Answer, Outcome, outcome, refuse}
+use Rattle.refusal.specs.Outcome.Answer.{given, refused}
+use Rattle.words.specs.Planes.{Planes, planesOf}
+use Rattle.value.specs.Checks.{Vector}
+use Rattle.lines.specs.Buffer.{Buffer, put}
+use Rattle.output.specs.Output.{cellText, doneText, refusedText}
+use Rattle.ops.specs.declared.Step.{Step}
+use Rattle.machine.specs.Machine.{Ending, AtEnd, RefusedAt}
+use Rattle.store.specs.Store.{State, state, emptyStore, addInput}
+use Rattle.store.specs.Step.{Memory, memory, addStep, stepVector}
+use Rattle.steplist.specs.Listing.{StepList, whole}
+
+-- the memory that a run leaves, the text that it writes, and how it ends
+pub record Ran : Type 0 where
+  pub memory : Memory
+  pub text : List ℕ
+  pub ending : Ending
+
+abbrev pub ran : Memory → List ℕ → Ending → Ran
+ran m t e = record { memory = m; text = t; ending = e }
+
+-- a refusal of the file or of an input leaves the memory as it found it
+abbrev pub refusedFirst : Memory → ℕ → Ran
+refusedFirst m n = ran m (refusedText n 0) (RefusedAt n 0)
+
+-- ---- the steps
+
+-- the lines of a step, behind k steps that were run
+abbrev pub stepText : Answer ℕ → ℕ → List LogicBit → List ℕ
+stepText (given n) k bits = cellText n bits
+stepText (refused n) k bits = refusedText n (suc k)
+
+-- a refused step is the run's last; the lines of the others come before those of the steps behind them
+abbrev pub afterStep : Answer ℕ → Memory → ℕ → List LogicBit → Ran → Ran
+afterStep (given n) left k bits rest = ran (rest .memory) (stepText (given n) k bits ++ rest .text) (rest .ending)
+afterStep (refused n) left k bits rest = ran left (stepText (refused n) k bits) (RefusedAt n (suc k))
+
+-- the steps of a list, behind k steps that were run
+unfoldable pub runSteps : Memory → ℕ → List Step → Ran
+runSteps m k [] = ran m (doneText k) AtEnd
+runSteps m k (s ∷ ss) =
+    let left = addStep m s .left in
+    afterStep (addStep m s .answer) left k (stepVector (m .state) s .bits) (runSteps left (suc k) ss)
+
+-- ---- the inputs
+
+-- an input of a list is handed over as its header and its planes
+abbrev pub addListed : State → Vector → Outcome ℕ State
+addListed s v = addInput s (v .header) (planesOf (v .bits))
+
+abbrev pub afterInput : Answer ℕ → State → Outcome Unit State → Outcome Unit State
+afterInput (given n) left rest = rest
+afterInput (refused n) left rest = refuse n left
+
+-- all inputs in order, up to the first that is refused
+unfoldable pub addInputs : State → List Vector → Outcome Unit State
+addInputs s [] = outcome (given tt) s
+addInputs s (v ∷ vs) =
+    let left = addListed s v .left in
+    afterInput (addListed s v .answer) left (addInputs left vs)
+
+-- ---- a whole list
+
+-- the steps are run behind the inputs, if none is refused; an input takes no scratch
+abbrev pub afterInputs : Answer Unit → Memory → List Step → Ran
+afterInputs (given u) m ss = runSteps m 0 ss
+afterInputs (refused n) m ss = refusedFirst m n
+
+abbrev pub runList : Memory → StepList → Ran
+runList m l =
+    let o = addInputs (m .state) (l .inputs) in
+    afterInputs (o .answer) (memory (o .left) (m .scratch)) (l .steps)
+
+-- the file is read whole before any input or step
+abbrev pub runWhole : Memory → Answer StepList → Ran
+runWhole m (given l) = runList m l
+runWhole m (refused n) = refusedFirst m n
+
+-- the store starts empty
+abbrev pub emptied : (arenas scratch : Planes) → Memory
+emptied arenas scratch = memory (state emptyStore arenas) scratch
+
+abbrev pub runText : (arenas scratch : Planes) → List ℕ → Ran
+runText arenas scratch t = runWhole (emptied arenas scratch) (whole t)
+
+-- ---- `run`
+
+-- all that `run` leaves: the memory, and its text at the front of the buffer, whose further bytes stay
+pub record Written : Type 0 where
+  pub memory : Memory
+  pub out : Buffer
+
+abbrev pub written : Memory → Buffer → Written
+written m b = record { memory = m; out = b }
+
+abbrev pub writtenBy : Ran → Buffer → Written
+writtenBy r b = written (r .memory) (put b (r .text))

@@ -1,0 +1,52 @@
+// A step list, run: its text is read whole, its inputs and steps are added to an empty store, and the lines that it writes stand in a buffer.
+use refusal::Verdict;
+use steplist::read_list;
+use store::Store;
+ghost use mathlib.Core.Path.{_≡_};
+ghost use Rattle.words.specs.Planes.{lent};
+ghost use Rattle.lines.specs.Buffer.{buffer};
+ghost use Rattle.store.specs.Store.{state};
+ghost use Rattle.store.specs.Step.{memory};
+ghost use Rattle.steps.specs.Run.{runText, written, writtenBy};
+
+pub mod inner;
+
+// The store that a run leaves, and how many bytes it wrote at the front of the buffer.
+pub struct Ran {
+    pub store: Store,
+    pub length: usize,
+}
+
+// Runs the step list that stands in `text`, from an empty store. The buffer has room for the lines of 256 steps of 4,096 bits and of a refusal.
+pub fn run(
+    text: &[u8],
+    arena_value: &mut [u64],
+    arena_unknown: &mut [u64],
+    scratch_value: &mut [u64],
+    scratch_unknown: &mut [u64],
+    out: &mut [u8; 1052436],
+) -> Ran
+    ensures { λ r. ⌜ written (memory (state (r .store) (lent (now («arena_value» .exit)) (now («arena_unknown» .exit)))) (lent (now («scratch_value» .exit)) (now («scratch_unknown» .exit)))) (buffer (now (out .exit)) (r .length)) ≡ writtenBy (runText (lent (now («arena_value» .entry)) (now («arena_unknown» .entry))) (lent (now («scratch_value» .entry)) (now («scratch_unknown» .entry))) (now (text .entry))) (buffer (now (out .entry)) 0) ⌝ }
+{
+    let a = read_list(text);
+    let list = a.list;
+    let verdict = a.verdict;
+    match verdict {
+        Verdict::Refused(r) => {
+            let n = inner::put_refusal(r, 0, out, 0);
+            Ran {
+                store: Store::new(),
+                length: n,
+            }
+        }
+        Verdict::Accepted => inner::run_list(
+            list,
+            text,
+            arena_value,
+            arena_unknown,
+            scratch_value,
+            scratch_unknown,
+            out,
+        ),
+    }
+}
