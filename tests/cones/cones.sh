@@ -9,7 +9,7 @@ printf 'refused=6\nstep=0\n' >format
 # told NAME WANT STATUS: the program, which wrote out and err and ended with STATUS, wrote what stands in WANT and nothing to err.
 told() {
     count=$((count + 1))
-    if ! cmp -s out "$2" || [ -s err ] || [ "$3" -ne "${4:-0}" ]; then
+    if ! cmp -s out "$2" || [ -s err ] || [ "$3" -ne 0 ]; then
         failed=$((failed + 1))
         printf '%s: status %s, wrote:\n' "$1" "$3"
         tail -n 4 out err | cut -c 1-100
@@ -138,10 +138,20 @@ sized 65536 >list
 told '65536 bytes in pieces' want $?
 yes 2>yes | timeout 10 "$BIN/cones" >out 2>err
 told 'input without end' format $?
+
+# ---- input that cannot be read: nothing is run, and a line on standard error says so
+unread() { # NAME STATUS
+    count=$((count + 1))
+    if [ -s out ] || [ "$2" -ne 0 ] || ! grep -qx 'cones: standard input cannot be read' err; then
+        failed=$((failed + 1))
+        printf '%s: status %s, wrote:\n' "$1" "$2"
+        tail -n 4 out err | cut -c 1-100
+    fi
+}
 "$BIN/cones" >out 2>err <&-
-told 'standard input closed' format $? 1
+unread 'standard input closed' $?
 "$BIN/cones" >out 2>err <"$cases"
-told 'a folder as standard input' format $? 1
+unread 'a folder as standard input' $?
 
 echo "$count cases, $failed failed"
 [ "$failed" -eq 0 ]
