@@ -66,6 +66,22 @@ pub place-of : (d : List ℕ) (i : ℕ) (v : List ℕ) {e : List ℕ} {j : ℕ} 
 unfolding put
 place-of d i v p = ap (λ (b : Buffer). b .place) p
 
+-- and that it ends within the buffer
+pub place-within : (d : List ℕ) (i : ℕ) (v : List ℕ) {e : List ℕ} {j : ℕ} → i ≤ length d → buffer e j ≡ put (buffer d i) v → j ≤ length e
+unfolding put
+place-within d i v h p =
+    let r = drop (i + length v) d in
+    omega (
+      arith,
+      place-of d i v p,
+      ap (λ (b : Buffer). length (b .bytes)) p,
+      length-append (take i d) (v ++ r),
+      length-append (take i d ++ v) r,
+      length-append (take i d) v,
+      length-append v r,
+      length-take-le i d h,
+    )
+
 -- a line: a key, what stands behind it, LF
 pub three : (d : List ℕ) (i : ℕ) (u v w : List ℕ) {e f g : List ℕ} {j k l : ℕ} → buffer e j ≡ put (buffer d i) u → buffer f k ≡ put (buffer e j) v → buffer g l ≡ put (buffer f k) w
     → i ≤ length d → buffer g l ≡ put (buffer d i) (u ++ (v ++ w))

@@ -1,0 +1,88 @@
+-- `cones::main`: what the run wrote lies in the buffer.
+use mathlib.Core.Path.{ap}
+use Prim.Native.Nat.{zero-le}
+use Rattle.lines.proofs.Put.{place-within}
+use Rattle.steps.specs.Run.{Written}
+use borrow.Author.Needs.{needs}
+use Rattle.cones.proofs.main.Statement.{statement}
+use Rattle.cones.proofs.main.Tie as tie
+
+slice-aggregate-read-all : tie.Need-slice-aggregate-read-all
+slice-aggregate-read-all c = search needs
+
+read-all-requires : tie.Need-read-all-requires
+read-all-requires c κs = search needs
+
+slice-aggregate-write-all : tie.Need-slice-aggregate-write-all
+slice-aggregate-write-all c = search needs
+
+write-all-requires : tie.Need-write-all-requires
+write-all-requires c κs = search needs
+
+returns : tie.Need-returns
+returns c = search needs
+
+sub-run : tie.Need-sub-run
+sub-run c = search needs
+
+part-run-start : tie.Need-part-run-start
+part-run-start c = search needs
+
+part-run-end : tie.Need-part-run-end
+part-run-end c = search needs
+
+slice-aggregate-run : tie.Need-slice-aggregate-run
+slice-aggregate-run c = search needs
+
+slice-aggregate-run-2 : tie.Need-slice-aggregate-run-2
+slice-aggregate-run-2 c = search needs
+
+slice-aggregate-run-3 : tie.Need-slice-aggregate-run-3
+slice-aggregate-run-3 c = search needs
+
+slice-aggregate-run-4 : tie.Need-slice-aggregate-run-4
+slice-aggregate-run-4 c = search needs
+
+run-requires : tie.Need-run-requires
+run-requires c κs = search needs
+
+sub-write-all : tie.Need-sub-write-all
+sub-write-all c = search needs
+
+part-write-all-start : tie.Need-part-write-all-start
+part-write-all-start c = search needs
+
+part-write-all-end : tie.Need-part-write-all-end
+part-write-all-end c =
+    let r = c .before .before .before .before .before .run in
+    let e = ap (λ (w : Written). w .out) (r .ensures) in
+    place-within _ 0 _ zero-le e
+
+write-all-requires-2 : tie.Need-write-all-requires-2
+write-all-requires-2 c κs = search needs
+
+returns-2 : tie.Need-returns-2
+returns-2 c = search needs
+
+pub main-spec : {M : Type 1} → statement M
+main-spec =
+    tie.close
+    (tie.spec
+    slice-aggregate-read-all
+    read-all-requires
+    slice-aggregate-write-all
+    write-all-requires
+    returns
+    sub-run
+    part-run-start
+    part-run-end
+    slice-aggregate-run
+    slice-aggregate-run-2
+    slice-aggregate-run-3
+    slice-aggregate-run-4
+    run-requires
+    sub-write-all
+    part-write-all-start
+    part-write-all-end
+    write-all-requires-2
+    returns-2)
