@@ -5,13 +5,13 @@ use text::Line;
 use text::Place;
 ghost use mathlib.Core.Path.{_≡_};
 ghost use mathlib.Core.List.{map};
-ghost use Prim.Native.Nat.{_<_};
-ghost use lib.ListN.{drop, getD};
-ghost use Rattle.ops.specs.declared.Op.the-variants.{And};
+ghost use lib.ListN.{drop};
 ghost use Rattle.text.specs.Read.{oneOf};
 ghost use Rattle.text.specs.Answers.{lineIn};
 ghost use Rattle.opline.specs.OpLine.{opName, allOps, opLine, uses as usesOf, largest as largestOf};
 ghost use Rattle.opline.specs.Answers.{opIn};
+
+pub mod inner;
 
 // An op and the place behind its line, if the line is as it should be.
 pub enum OpRead {
@@ -42,33 +42,6 @@ fn op_name(s: &[u8], at: usize) -> Line
     text::named(s, at, b"and", 0, r)
 }
 
-// The op of a number.
-fn op_at(n: usize) -> Op
-    requires { ⌜ n < 17 ⌝ }
-    ensures { λ r. ⌜ r ≡ getD allOps n And ⌝ }
-{
-    let ops = [
-        Op::And,
-        Op::Or,
-        Op::Xor,
-        Op::Not,
-        Op::Merge,
-        Op::ReduceAnd,
-        Op::ReduceOr,
-        Op::ReduceXor,
-        Op::Equal,
-        Op::CaseEqual,
-        Op::CasezEqual,
-        Op::CasexEqual,
-        Op::WildcardEqual,
-        Op::LogicAnd,
-        Op::LogicOr,
-        Op::Select,
-        Op::Insert,
-    ];
-    ops[n]
-}
-
 // The line op=: the op that has the name, and the place behind the line.
 pub fn op_line(s: &[u8], at: usize) -> OpRead
     ensures { λ r. ⌜ r ≡ opIn (now (s .entry)) (opLine (drop at (now (s .entry)))) ⌝ }
@@ -79,7 +52,7 @@ pub fn op_line(s: &[u8], at: usize) -> OpRead
     let Line::Number(n, j) = op_name(s, i) else {
         return OpRead::Broken;
     };
-    OpRead::Found(op_at(n as usize), j)
+    OpRead::Found(inner::op_at(n as usize), j)
 }
 
 // How many of a, b and c an op uses.

@@ -1,0 +1,38 @@
+-- The laws that the exports end with.
+use mathlib.Core.Path.{_≡_, ap, ap₂, _∙_}
+use Prim.Native.Nat.{ℕ}
+use Rattle.refusal.specs.Outcome.{Answer, Outcome, outcome}
+use Rattle.words.specs.Planes.{Planes}
+use Rattle.value.specs.declared.Header.{Header}
+use Rattle.ops.specs.declared.Op.{Op}
+use Rattle.ops.specs.declared.Step.{Step}
+use Rattle.store.specs.declared.Store.{Store}
+use Rattle.store.specs.Store.{State, state, addInput}
+use Rattle.store.specs.Step.{Memory, memory, addStep}
+use Rattle.fields.specs.declared.CellResult.{CellResult}
+use Rattle.fields.specs.declared.Fields.{Fields}
+use Rattle.fields.specs.Fields.{Settled, settledBy, crossed, storeOf, opOf}
+use Rattle.ffi_store.specs.Crossing.{crossedInput, crossedStep}
+
+abbrev stepOf : Op → ℕ → ℕ → ℕ → Step
+stepOf op a b c = record { op = op; a = a; b = b; c = c }
+
+-- the settled answer of a call is what crosses of its outcome, whatever it leaves beside a store
+crosses : {S L : Type 0} (store : S → Store) (rest : S → L) (f : Fields) (a : Answer ℕ) (m : S) {t : Settled CellResult} {o : Outcome ℕ S}
+    → t ≡ settledBy a (store m) f → outcome a m ≡ o → crossed t (rest m) ≡ crossed (settledBy (o .answer) (store (o .left)) f) (rest (o .left))
+crosses {S} {L} store rest f a m e g =
+    ap (λ (x : Settled CellResult). crossed x (rest m)) e ∙ ap (λ (o : Outcome ℕ S). crossed (settledBy (o .answer) (store (o .left)) f) (rest (o .left))) g
+
+module _ (n : ℕ) (f : Fields) (arenas : Planes) (s : Store) (e : s ≡ storeOf n f) where
+  pub input-crosses : (h : Header) (p : Planes) (x : Answer ℕ) (left : State) (t : Settled CellResult)
+      → outcome x left ≡ addInput (state s arenas) h p → t ≡ settledBy x (left .store) f
+      → crossed t (left .arenas) ≡ crossedInput f (addInput (state (storeOf n f) arenas) h p)
+  input-crosses h p x left t d g =
+      crosses (λ (m : State). m .store) (λ (m : State). m .arenas) f x left g (d ∙ ap (λ (r : Store). addInput (state r arenas) h p) e)
+
+  pub step-crosses : (scratch : Planes) (op : Op) (code a b c : ℕ) (x : Answer ℕ) (left : Memory) (t : Settled CellResult)
+      → op ≡ opOf code → outcome x left ≡ addStep (memory (state s arenas) scratch) (stepOf op a b c) → t ≡ settledBy x (left .state .store) f
+      → crossed t (left .state .arenas, left .scratch) ≡ crossedStep f (addStep (memory (state (storeOf n f) arenas) scratch) (stepOf (opOf code) a b c))
+  step-crosses scratch op code a b c x left t o d g =
+      crosses (λ (m : Memory). m .state .store) (λ (m : Memory). (m .state .arenas, m .scratch)) f x left g
+      (d ∙ ap₂ (λ (r : Store) (p : Op). addStep (memory (state r arenas) scratch) (stepOf p a b c)) e o)

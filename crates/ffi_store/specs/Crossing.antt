@@ -1,0 +1,17 @@
+-- What the calls of the store give and leave as they cross to C: the answer as numbers, the fields of the store, and the lent planes.
+use Prim.Native.Nat.{ℕ}
+use Rattle.refusal.specs.Outcome.{Outcome}
+use Rattle.words.specs.Planes.{Planes}
+use Rattle.store.specs.Store.{State}
+use Rattle.store.specs.Step.{Memory}
+use Rattle.fields.specs.declared.CellResult.{CellResult}
+use Rattle.fields.specs.declared.Fields.{Fields}
+use Rattle.fields.specs.Fields.{settledBy, Crossed, crossed}
+
+-- what `add_input` does to the store that the fields f say
+abbrev pub crossedInput : Fields → Outcome ℕ State → Crossed CellResult Planes
+crossedInput f o = crossed (settledBy (o .answer) (o .left .store) f) (o .left .arenas)
+
+-- what `add_step` does to it; arenas, then scratch
+abbrev pub crossedStep : Fields → Outcome ℕ Memory → Crossed CellResult (Planes × Planes)
+crossedStep f o = crossed (settledBy (o .answer) (o .left .state .store) f) (o .left .state .arenas, o .left .scratch)
