@@ -1,22 +1,13 @@
 -- The results of the ops.
---     value-word, unknown-word     the two words of a vector of one bit
---     first-word      the lowest 64 bits of a vector are its word 0
 --     arms-alike      arms that are not refused have one width
 --     result-width    the result has as many bits as its header says
 use mathlib.Core.Path.{_≡_, refl, sym, ap, _∙_, subst}
 use mathlib.Core.Bool.{Bool, true, false, not, _||_}
-use mathlib.Core.List.{[], _∷_}
-use Prim.Native.Nat.{ℕ, _/_, _%_}
-use native.Mathlib.Nat.{zero-add}
+use Prim.Native.Nat.{ℕ}
 use native.Mathlib.Omega.{arith}
 use borrow.Author.Tests.{eqb-true}
 use lib.Dec.{T, eqb}
 use lib.ListN.{length}
-use Rattle.bit.specs.declared.LogicBit.{LogicBit}
-use Rattle.bit.specs.declared.LogicBit.the-variants.{Zero, One, X, Z}
-use Rattle.bit.specs.Rules.{code}
-use Rattle.words.specs.Vector.{at, pack}
-use Rattle.words.specs.Planes.{valueDigit, unknownDigit, wordOf, wordAt, packed}
 use Rattle.words.proofs.Planes.{length-tabulate}
 use Rattle.value.specs.declared.Header.{Header}
 use Rattle.value.specs.Checks.{Vector}
@@ -27,23 +18,6 @@ use Rattle.ops.specs.declared.Op.{Op}
 use Rattle.ops.specs.declared.Kind.{Kind}
 use Rattle.ops.specs.declared.Kind.the-variants as kind
 use Rattle.ops.specs.Ops.{kindOf, armsDiffer, kindRefused, armsRefused, kindHeader, kindBits, selected, opVector}
-
-pub value-word : (b : LogicBit) → code b % 2 ≡ wordOf valueDigit (at (b ∷ [])) 0
-unfolding pack
-value-word Zero = refl
-value-word One = refl
-value-word X = refl
-value-word Z = refl
-
-pub unknown-word : (b : LogicBit) → code b / 2 ≡ wordOf unknownDigit (at (b ∷ [])) 0
-unfolding pack
-unknown-word Zero = refl
-unknown-word One = refl
-unknown-word X = refl
-unknown-word Z = refl
-
-pub first-word : (f : ℕ → LogicBit) → wordAt f 0 ≡ packed f
-first-word f = λ k. packed (λ j. f (zero-add j k))
 
 pub arms-alike : (b c : Header) → armsDiffer b c ≡ false → c .width ≡ b .width
 arms-alike b c h = go (eqb (b .width) (c .width)) refl

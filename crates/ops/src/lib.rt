@@ -1,11 +1,9 @@
-// The ops of a step list: how many cells each names, which arms it refuses, the header of its result, and the result itself.
+// The ops of a step list: how each is worked out, how many cells it names, which arms it refuses, and the header of its result.
 use lanes::Bitwise;
 use scan::Comparison;
 use value::Header;
 ghost use mathlib.Core.Path.{_≡_};
 ghost use Rattle.ops.specs.Ops.{kindOf, operands, armsDiffer, armsRefused, opHeader};
-
-pub mod inner;
 
 // The ops of a step list.
 pub enum Op {

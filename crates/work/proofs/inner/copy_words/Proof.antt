@@ -1,4 +1,4 @@
--- `ops::inner::copy_words`: the words below k are copied.
+-- `work::inner::copy_words`: the words below k are copied.
 use mathlib.Core.Path.{refl, _∙_}
 use Prim.Native.Nat.{_-_}
 use native.Mathlib.Omega.{arith}
@@ -6,8 +6,8 @@ use lib.ListN.{length, getD}
 use lib.Seq.{ext-getD}
 use Rattle.words.proofs.Fill.{Written, start, more}
 use borrow.Author.Needs.{needs}
-use Rattle.ops.proofs.inner.copy_words.Statement.{statement}
-use Rattle.ops.proofs.inner.copy_words.Tie as tie
+use Rattle.work.proofs.inner.copy_words.Statement.{statement}
+use Rattle.work.proofs.inner.copy_words.Tie as tie
 
 abbrev Inv-loop : tie.InvT-loop
 Inv-loop from to₀ k₀ to k = Written (λ i. getD from i 0) (length to₀) k to

@@ -1,13 +1,13 @@
--- `ops::inner::insert`: the planes of a, and the bits put in there.
+-- `work::inner::insert`: the planes of a, and the bits put in there.
 use mathlib.Core.Path.{sym, ap, ap₂, _∙_, subst}
 use Rattle.words.specs.declared.Word.{Word}
 use Rattle.words.specs.Vector.{at}
 use Rattle.words.specs.Planes.{Planes, Plane, fromPlanes, vectorOf, planesOf}
 use Rattle.planes.specs.Entries.{spliced}
-use Rattle.ops.proofs.Results.{first-word}
+use Rattle.work.proofs.Words.{first-word}
 use borrow.Author.Needs.{needs}
-use Rattle.ops.proofs.inner.insert.Statement.{statement}
-use Rattle.ops.proofs.inner.insert.Tie as tie
+use Rattle.work.proofs.inner.insert.Statement.{statement}
+use Rattle.work.proofs.inner.insert.Tie as tie
 
 cast-n : tie.Need-cast-n
 cast-n c = search needs

@@ -1,9 +1,9 @@
--- `ops::inner::vector_truth`: the truth, then its bit.
+-- `work::inner::vector_truth`: the truth, then its bit.
 use mathlib.Core.Path.{ap, _∙_}
 use Rattle.reduce.specs.Reduce.{truthBit}
 use borrow.Author.Needs.{needs}
-use Rattle.ops.proofs.inner.vector_truth.Statement.{statement}
-use Rattle.ops.proofs.inner.vector_truth.Tie as tie
+use Rattle.work.proofs.inner.vector_truth.Statement.{statement}
+use Rattle.work.proofs.inner.vector_truth.Tie as tie
 
 truth-requires : tie.Need-truth-requires
 truth-requires c κs = search needs

@@ -1,16 +1,16 @@
--- `ops::inner::work`: by the kind of the op.
+-- `work::inner::work`: by the kind of the op.
 use mathlib.Core.Path.{_≡_, sym, ap, _∙_}
 use mathlib.Core.List.{[], _∷_}
 use lib.ListN.{length}
 use Rattle.bit.specs.declared.LogicBit.{LogicBit}
 use Rattle.words.specs.Planes.{wordCount, lent, planesOf}
 use Rattle.value.specs.Checks.{vector}
 use Rattle.ops.specs.declared.Kind.{Kind}
 use Rattle.ops.specs.Ops.{kindRefused, kindHeader, kindBits, opBits}
 use Rattle.ops.proofs.Results.{arms-alike}
 use borrow.Author.Needs.{needs}
-use Rattle.ops.proofs.inner.work.Statement.{statement}
-use Rattle.ops.proofs.inner.work.Tie as tie
+use Rattle.work.proofs.inner.work.Statement.{statement}
+use Rattle.work.proofs.inner.work.Tie as tie
 
 -- the planes lent for the result, by the kind that was told
 sized : (c : tie.After-kind-of) (k : Kind) → c .kind-of .result ≡ k → let a = c .before .before .before .before .before .before .before .before .before .args in

@@ -1,13 +1,13 @@
--- `ops::inner::answer`: by the question.
+-- `work::inner::answer`: by the question.
 use mathlib.Core.Path.{_≡_, sym, ap, ap₂, _∙_}
 use Rattle.bit.specs.Rules.{andBit, orBit}
 use Rattle.words.specs.Planes.{lent}
 use Rattle.value.specs.Checks.{vector}
 use Rattle.ops.specs.declared.Question.{Question}
 use Rattle.ops.specs.Ops.{answerBit}
 use borrow.Author.Needs.{needs}
-use Rattle.ops.proofs.inner.answer.Statement.{statement}
-use Rattle.ops.proofs.inner.answer.Tie as tie
+use Rattle.work.proofs.inner.answer.Statement.{statement}
+use Rattle.work.proofs.inner.answer.Tie as tie
 
 -- what follows from the question that was told
 told : (c : tie.After-shared-slice-known4) (q : Question) → let a = c .before .before .before .before .args in

@@ -1,4 +1,4 @@
--- `ops::inner::select`: by the truth.
+-- `work::inner::select`: by the truth.
 use mathlib.Core.Path.{_≡_, sym, ap, _∙_}
 use native.Mathlib.Omega.{arith}
 use Rattle.words.specs.Planes.{fromPlanes, lent, planesOf}
@@ -6,10 +6,10 @@ use Rattle.planes.proofs.Splice.{planes-again}
 use Rattle.value.specs.Checks.{vector}
 use Rattle.reduce.specs.declared.Truth.{Truth}
 use Rattle.reduce.specs.Reduce.{truthOf}
 use Rattle.ops.specs.Ops.{selected}
 use borrow.Author.Needs.{needs}
-use Rattle.ops.proofs.inner.select.Statement.{statement}
-use Rattle.ops.proofs.inner.select.Tie as tie
+use Rattle.work.proofs.inner.select.Statement.{statement}
+use Rattle.work.proofs.inner.select.Tie as tie
 
 -- what follows from the truth that was told
 told : (c : tie.After-truth) (t : Truth) → c .truth .result ≡ t → let a = c .before .before .before .before .before .before .before .before .before .args in

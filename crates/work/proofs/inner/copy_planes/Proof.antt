@@ -1,9 +1,9 @@
--- `ops::inner::copy_planes`: one plane, then the other.
+-- `work::inner::copy_planes`: one plane, then the other.
 use mathlib.Core.Path.{ap₂}
 use Rattle.words.specs.Planes.{lent}
 use borrow.Author.Needs.{needs}
-use Rattle.ops.proofs.inner.copy_planes.Statement.{statement}
-use Rattle.ops.proofs.inner.copy_planes.Tie as tie
+use Rattle.work.proofs.inner.copy_planes.Statement.{statement}
+use Rattle.work.proofs.inner.copy_planes.Tie as tie
 
 copy-words-requires : tie.Need-copy-words-requires
 copy-words-requires c κs = search needs

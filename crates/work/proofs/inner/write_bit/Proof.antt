@@ -1,14 +1,14 @@
--- `ops::inner::write_bit`: word 0 is the only one.
+-- `work::inner::write_bit`: word 0 is the only one.
 use mathlib.Core.Path.{refl, ap, ap₂, _∙_}
 use mathlib.Core.List.{[], _∷_}
 use Prim.Native.Nat.{ℕ, _/_, _%_}
 use native.Mathlib.Omega.{arith}
 use Rattle.words.specs.Planes.{valueDigit, unknownDigit, lent}
 use Rattle.words.proofs.Fill.{start, more, plane-done}
-use Rattle.ops.proofs.Results.{value-word, unknown-word}
+use Rattle.work.proofs.Words.{value-word, unknown-word}
 use borrow.Author.Needs.{needs}
-use Rattle.ops.proofs.inner.write_bit.Statement.{statement}
-use Rattle.ops.proofs.inner.write_bit.Tie as tie
+use Rattle.work.proofs.inner.write_bit.Statement.{statement}
+use Rattle.work.proofs.inner.write_bit.Tie as tie
 
 to-code-requires : tie.Need-to-code-requires
 to-code-requires c κs = search needs

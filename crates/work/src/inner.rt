@@ -1,11 +1,11 @@
 // The ops worked out, into planes lent for the result. These ask their caller for accepted operands and for planes of the result's word count.
-use crate::Kind;
-use crate::Op;
-use crate::Question;
 use bit::LogicBit;
 use join::inner::join_planes;
 use join::inner::not_planes;
 use lanes::Bitwise;
+use ops::Kind;
+use ops::Op;
+use ops::Question;
 use reduce::Truth;
 use reduce::inner::and_bits;
 use reduce::inner::or_bits;
@@ -173,7 +173,7 @@ pub fn work(
     requires { ⌜ (length (now ov) ≡ wordCount (opHeader op a b c .width)) × (length (now ou) ≡ wordCount (opHeader op a b c .width)) ⌝ }
     ensures { λ _. ⌜ lent (now (ov .exit)) (now (ou .exit)) ≡ planesOf (opBits op (vector a (lent (now (av .entry)) (now (au .entry)))) (vector b (lent (now (bv .entry)) (now (bu .entry)))) (vector c (lent (now (cv .entry)) (now (cu .entry)))) pos) ⌝ }
 {
-    match crate::kind_of(op) {
+    match ops::kind_of(op) {
         Kind::Join(j) => {
             let width = extension::larger(a.width, b.width);
             join_planes(j, a, av, au, b, bv, bu, width, ov, ou)

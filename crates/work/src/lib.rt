@@ -1,0 +1,2 @@
+// The ops of a step list worked out on accepted operands.
+pub mod inner;
