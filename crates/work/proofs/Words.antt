@@ -1,4 +1,4 @@
--- Words of single bits and of narrow vectors.
+-- The two words of one bit, and the first word of a vector.
 --     value-word, unknown-word     the two words of a vector of one bit
 --     first-word                   the lowest 64 bits of a vector are its word 0
 use mathlib.Core.Path.{_≡_, refl}
