@@ -12,9 +12,10 @@ use Rattle.ops.specs.declared.Kind.the-variants as kind
 use Rattle.ops.specs.declared.Step.{Step}
 use Rattle.ops.specs.Ops.{kindOf, kindHeader}
 use Rattle.machine.specs.Machine.{cellAt}
-use Rattle.store.specs.declared.Cell.{Cell}
+use Rattle.cells.specs.declared.Cell.{Cell}
+use Rattle.cells.specs.Cells.{cellVector}
 use Rattle.store.specs.declared.Store.{Store}
-use Rattle.store.specs.Store.{State, noCell, emptyStore, cellVector, cellsOf, putCell}
+use Rattle.store.specs.Store.{State, noCell, emptyStore, cellsOf, putCell}
 use Rattle.store.specs.Step.{stepVector}
 use Rattle.steps.specs.Limits.{Thin, Narrow}
 

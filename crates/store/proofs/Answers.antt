@@ -1,7 +1,6 @@
 -- What an answer behind a check tells of the check, and when a check accepts.
 --     not-given                        a refusal is no result
 --     answer-given, answer-refused     a result: the check accepted; a refusal: the check's own
---     both                             two tests that hold together
 --     planes-header                    the check of a vector whose planes are in order goes by the header alone
 --     vector-accepts                   a vector in order is accepted
 use mathlib.Core.Path.{_≡_, refl, sym, ap, _∙_}
@@ -19,10 +18,6 @@ use Rattle.value.specs.declared.Header.{Header}
 use Rattle.value.specs.Checks.{checkVector}
 use Rattle.value.proofs.Checks.{Sound}
 use Rattle.store.specs.Store.{checkHeader}
-
-pub both : (a b : Bool) → a && b ≡ true → (a ≡ true) × (b ≡ true)
-both true b h = (refl, h)
-both false b h = let z : _≡_ {A = ℕ} 0 1 = cc in absurd (omega arith)
 
 pub not-given : {A : Type 0} (n : ℕ) (a : A) → _≡_ {A = Answer A} (refused n) (given a) → ⊥
 not-given n a h = let z : _≡_ {A = ℕ} 0 1 = cc in omega arith

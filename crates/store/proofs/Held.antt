@@ -1,5 +1,5 @@
 -- What a state holds, and how it lasts.
---     fits-read, cell-read     a filled cell lies within the arenas, and its planes are those of a vector
+--     cell-read       a filled cell lies within the arenas, and its planes are those of a vector
 --     held-count, cell-held     there are as many cells as vectors held, and cell i has vector i
 --     holds-headers   the filled cells have the headers of the vectors held
 --     empty-holds     an empty store holds no cells
@@ -21,28 +21,18 @@ use Rattle.words.specs.Planes.{wordCount, fromPlanes, valuePlane, unknownPlane,
 use Rattle.words.proofs.Planes.{bits-again, value-plane, unknown-plane}
 use Rattle.planes.specs.Entries.{maxWidth}
 use Rattle.value.specs.Checks.{Vector, vector, checkVector}
-use Rattle.value.proofs.Checks.{Sound, vector-accepted}
+use Rattle.value.proofs.Checks.{Sound}
 use Rattle.machine.specs.Machine.{headersOf, wordsTaken}
-use Rattle.store.specs.declared.Cell.{Cell}
-use Rattle.store.specs.Store.{State, state, noCell, emptyStore, filled, cellWords, cellPlanes, cellVector, cellHeaders, storeHeaders, nextWord, cellAgrees, cellsAgree, agrees, putPlanes, putCell, appended, roomOf, Holds}
+use Rattle.cells.specs.declared.Cell.{Cell}
+use Rattle.cells.specs.Cells.{cellPlanes, cellVector, cellHeaders, cellAgrees, cellsAgree, putPlanes}
+use Rattle.store.specs.Store.{State, state, noCell, emptyStore, filled, storeHeaders, nextWord, agrees, putCell, appended, roomOf, Holds}
 use Rattle.store.specs.Step.{Memory}
 use Rattle.store.proofs.Answers.{vector-accepts}
-use Rattle.store.proofs.Spans.{Fits, fits-cell, cells-snoc, filled-fits, cells-same, Agreed, state-agrees, agrees-state}
-use Rattle.store.proofs.Tail.{put-take, put-span, put-length}
+use Rattle.cells.proofs.Spans.{fits-cell, cells-snoc, cells-same, Readable, fits-read}
+use Rattle.store.proofs.Agreed.{filled-fits, Agreed, state-agrees, agrees-state}
+use Rattle.cells.proofs.Tail.{put-take, put-span, put-length}
 
 -- ---- reading
-
-pub record Readable (a : Planes) (c : Cell) : Type 0 where
-  pub value-within : c .start + cellWords c ≤ length (a .value)
-  pub unknown-within : c .start + cellWords c ≤ length (a .unknown)
-  pub sound : Sound (c .header) (cellPlanes a c)
-
-pub fits-read : (a : Planes) (k : ℕ) (c : Cell) → length (a .value) ≡ length (a .unknown) → Fits a k c → Readable a c
-fits-read a k c e f = record {
-  value-within = f .within;
-  unknown-within = omega (arith, f .within, e);
-  sound = vector-accepted (c .header) (cellPlanes a c) (f .sound);
-}
 
 pub cell-read : (s : State) (i : ℕ) (d : Cell) → length (s .store .cells) ≡ 320 → agrees s ≡ true → i < s .store .count
     → Readable (s .arenas) (getD (s .store .cells) i d)

@@ -21,7 +21,7 @@ use Rattle.machine.specs.Machine.{headersOf, checkCount, checkRoom}
 use Rattle.store.specs.Store.{State, storeHeaders, nextWord, agrees, checkStore, roomOf, appended, checkInput, addInput, checkHeader, Holds}
 use Rattle.store.specs.Step.{memory}
 use Rattle.store.proofs.Answers.{not-given, planes-header}
-use Rattle.store.proofs.Spans.{headers-count, state-agrees, next-within}
+use Rattle.store.proofs.Agreed.{headers-count, state-agrees, next-within}
 use Rattle.store.proofs.Held.{held-count, holds-headers, Storable, storable-vector, append-holds, value-length, Added}
 
 pub record Accepted (s : State) (h : Header) (p : Planes) : Type 0 where

@@ -1,7 +1,6 @@
 pub mod Answers
-pub mod Spans
+pub mod Agreed
 pub mod Walk
-pub mod Tail
 pub mod Held
 pub mod Inputs
 pub mod Named

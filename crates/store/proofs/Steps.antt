@@ -2,18 +2,17 @@
 --     step-admitted   what its check has found
 --     named-fits      the cells that it names fit
 --     step-storable   a cell can hold its result
---     front-back      what scratch planes hold after their first words were lent
 --     worked-front    the scratch planes then begin with its result
 --     step-check      where a state holds cells, the check goes by headers alone
 --     step-holds      its result is held behind the others
 use mathlib.Core.Path.{_≡_, refl, sym, ap, ap₂, _∙_, subst}
 use mathlib.Core.Bool.{Bool, true, false, cond}
-use mathlib.Core.List.{List, _++_}
+use mathlib.Core.List.{List}
 use Prim.Native.Nat.{ℕ, _+_, _-_, _≤_, _<_, min}
 use native.Mathlib.Omega.{arith}
 use borrow.Author.Tests.{leb-false, ltb-false}
 use lib.Dec.{leb, ltb}
-use lib.ListN.{length, take, drop}
+use lib.ListN.{length, take}
 use Rattle.refusal.specs.Outcome.{Answer, outcome, after, orRefuse}
 use Rattle.refusal.specs.Outcome.Answer.{given, refused}
 use Rattle.words.specs.Planes.{wordCount, valuePlane, unknownPlane, Plane, Planes, lent, planesOf}
@@ -27,14 +26,17 @@ use Rattle.ops.specs.Ops.{armsRefused}
 use Rattle.ops.proofs.Results.{result-width}
 use Rattle.ops.proofs.Accepted.{result-sound}
 use Rattle.machine.specs.Machine.{headersOf, headerAt, names, stepHeader, wordsTaken, checkStep, stepCell}
-use Rattle.store.specs.declared.Cell.{Cell}
-use Rattle.store.specs.Store.{State, noCell, cellPlanes, cellVector, storeHeaders, nextWord, agrees, checkStore, put, putPlanes, appended, roomOf, Holds}
+use Rattle.cells.specs.declared.Cell.{Cell}
+use Rattle.cells.specs.Cells.{cellPlanes, cellVector}
+use Rattle.store.specs.Store.{State, noCell, storeHeaders, nextWord, agrees, checkStore, appended, roomOf, Holds}
 use Rattle.store.specs.Step.{Memory, memory, checkMemory, stepVector, worked, stepped, addStep, cellNumber, namedCells}
 use Rattle.store.proofs.Answers.{not-given}
-use Rattle.store.proofs.Spans.{Fits, headers-count, filled-fits, state-agrees, next-within}
-use Rattle.store.proofs.Held.{fits-read, held-count, holds-headers, Storable, storable-sound, storable-vector, append-holds, value-length, Added}
-use Rattle.store.proofs.Tail.{put-span, put-length}
-use Rattle.store.proofs.Named.{Within, names-within, arms-named, header-named, vector-named}
+use Rattle.cells.proofs.Spans.{Fits, fits-read}
+use Rattle.store.proofs.Agreed.{headers-count, filled-fits, state-agrees, next-within}
+use Rattle.store.proofs.Held.{held-count, holds-headers, Storable, storable-sound, storable-vector, append-holds, value-length, Added}
+use Rattle.cells.proofs.Tail.{front-is}
+use Rattle.cells.proofs.Named.{Within, names-within}
+use Rattle.store.proofs.Named.{arms-named, header-named, vector-named}
 
 -- the header of the result, as the machine has it
 header-vector : (s : State) (step : Step) → stepHeader (storeHeaders (s .store)) step ≡ stepVector s step .header
@@ -136,15 +138,6 @@ module _ (m : Memory) (step : Step) (places : length (m .state .store .cells) �
 
 -- ---- scratch
 
--- the first n words of both planes were lent and hold the words of p
-pub front-back : (n : ℕ) (left p scratch : Planes) → left ≡ p → n ≡ length (p .value) → n ≡ length (p .unknown)
-    → lent (left .value ++ drop n (scratch .value)) (left .unknown ++ drop n (scratch .unknown)) ≡ putPlanes 0 p scratch
-front-back n left p scratch e v u =
-    let x : n ≡ 0 + length (p .value) = omega arith in
-    let y : n ≡ 0 + length (p .unknown) = omega arith in
-    ap (λ (q : Planes). lent (q .value ++ drop n (scratch .value)) (q .unknown ++ drop n (scratch .unknown))) e
-    ∙ ap₂ (λ (i j : ℕ). lent (p .value ++ drop i (scratch .value)) (p .unknown ++ drop j (scratch .unknown))) x y
-
 -- planes whose first words are those of the vector r, whose header is h
 pub record Front (h : Header) (r : Vector) (p : Planes) : Type 0 where
   pub value-long : wordCount (h .width) ≤ length (p .value)
@@ -152,12 +145,6 @@ pub record Front (h : Header) (r : Vector) (p : Planes) : Type 0 where
   pub value-plane : Plane (h .width) (take (wordCount (h .width)) (p .value))
   pub unknown-plane : Plane (h .width) (take (wordCount (h .width)) (p .unknown))
   pub holds : vector h (lent (take (wordCount (h .width)) (p .value)) (take (wordCount (h .width)) (p .unknown))) ≡ r
-
--- the front of a plane is what was put there
-front-is : (n : ℕ) (p plane : List ℕ) → length p ≡ n → n ≤ length plane → (take n (put 0 p plane) ≡ p) × (length (put 0 p plane) ≡ length plane)
-front-is n p plane e h =
-    let l : 0 + length p ≤ length plane = omega arith in
-    (ap (λ (k : ℕ). take k (put 0 p plane)) (sym e) ∙ put-span 0 p plane l, put-length 0 p plane l)
 
 module _ (r : Vector) (scratch : Planes) (t : Storable r) (hv : wordCount (r .header .width) ≤ length (scratch .value))
     (hu : wordCount (r .header .width) ≤ length (scratch .unknown)) where

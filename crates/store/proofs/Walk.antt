@@ -12,9 +12,10 @@ use Rattle.refusal.specs.Outcome.{Answer, after}
 use Rattle.refusal.specs.Outcome.Answer.{given, refused}
 use Rattle.words.specs.Planes.{Planes}
 use Rattle.machine.specs.Machine.{wordsTaken}
-use Rattle.store.specs.declared.Cell.{Cell}
+use Rattle.cells.specs.declared.Cell.{Cell}
 use Rattle.store.specs.declared.Store.{Store}
-use Rattle.store.specs.Store.{State, filled, cellWords, cellHeaders, nextWord, cellAgrees, cellsAgree, agrees, checkStore}
+use Rattle.cells.specs.Cells.{cellWords, cellHeaders, cellAgrees, cellsAgree}
+use Rattle.store.specs.Store.{State, filled, nextWord, agrees, checkStore}
 
 pub record Left (a : Planes) (s : Store) (i k : ℕ) : Type 0 where
   pub words : k + wordsTaken (cellHeaders (drop i (filled s))) ≡ nextWord s

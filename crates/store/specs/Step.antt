@@ -1,20 +1,18 @@
 -- Document 01, "Cell store", "Step list" and "Numbers for what is not done": what adding a step does to the store, its arenas and the two lent
 -- scratch planes.
-use mathlib.Core.Bool.{cond}
 use Prim.Native.Nat.{ℕ}
-use lib.Dec.{ltb}
 use lib.ListN.{getD}
 use Rattle.refusal.specs.Outcome.{Answer, Outcome, outcome, after, orRefuse}
 use Rattle.refusal.specs.Outcome.Answer.{given}
 use Rattle.words.specs.Planes.{Planes, planesOf}
 use Rattle.value.specs.Checks.{Vector}
 use Rattle.ops.specs.declared.Step.{Step}
-use Rattle.ops.specs.Ops.{operands}
 use Rattle.machine.specs.Machine.{checkStep, stepCell}
-use Rattle.store.specs.declared.Cell.{Cell}
+use Rattle.cells.specs.declared.Cell.{Cell}
 use Rattle.store.specs.declared.Store.{Store}
-use Rattle.store.specs.declared.Operands.{Operands}
-use Rattle.store.specs.Store.{State, noCell, filled, storeHeaders, cellsOf, checkStore, roomOf, putPlanes, appended}
+use Rattle.cells.specs.declared.Operands.{Operands}
+use Rattle.cells.specs.Cells.{putPlanes, named}
+use Rattle.store.specs.Store.{State, noCell, filled, storeHeaders, cellsOf, checkStore, roomOf, appended}
 
 -- all that a call can change: the store, its arenas, and the scratch planes
 pub record Memory : Type 0 where
@@ -46,15 +44,6 @@ abbrev pub addStep : Memory → Step → Outcome ℕ Memory
 addStep m step = orRefuse (checkMemory m step) m (outcome (given (m .state .store .count)) (stepped (stepVector (m .state) step) m))
 
 -- ---- the cells that a step names
-
--- an operand that the op does not use is ignored: the number of a stands for it
-abbrev pub named : Step → Step
-named s = record {
-  op = s .op;
-  a = s .a;
-  b = cond (ltb (operands (s .op)) 2) (s .a) (s .b);
-  c = cond (ltb (operands (s .op)) 3) (s .a) (s .c);
-}
 
 abbrev pub cellNumber : Store → ℕ → Cell
 cellNumber s i = getD (filled s) i noCell

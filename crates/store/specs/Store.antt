@@ -1,21 +1,22 @@
--- Document 01, "Cell store" and "Numbers for what is not done": cells whose spans lie one behind the other in two lent arenas, what a store and
--- its arenas must agree on, and what adding an input does to both.
+-- Document 01, "Cell store" and "Numbers for what is not done": at most 320 cells, what a store and its arenas must agree on, and what adding an
+-- input does to both.
 use mathlib.Core.Path.{_≡_}
-use mathlib.Core.Bool.{Bool, true, false, _&&_, cond}
-use mathlib.Core.List.{List, [], _∷_, _++_, map}
+use mathlib.Core.Bool.{Bool, true, _&&_, cond}
+use mathlib.Core.List.{List, [], map}
 use Prim.Native.Nat.{ℕ, _+_, min}
 use lib.Dec.{eqb, leb, ltb}
-use lib.ListN.{length, take, drop, set, replicate}
+use lib.ListN.{length, take, set, replicate}
 use Rattle.refusal.specs.Refusals.{refusalNumber}
 use Rattle.refusal.specs.Outcome.{Answer, Outcome, outcome, after, orRefuse}
 use Rattle.refusal.specs.Outcome.Answer.{given, refused}
-use Rattle.words.specs.Planes.{wordCount, Planes, lent, planesOf}
+use Rattle.words.specs.Planes.{Planes, lent, planesOf}
 use Rattle.planes.specs.Entries.{maxWidth}
 use Rattle.value.specs.declared.Header.{Header}
 use Rattle.value.specs.Checks.{Vector, vector, checkVector}
 use Rattle.value.specs.Constructors.{plain}
 use Rattle.machine.specs.Machine.{Room, wordsTaken, checkCount, checkRoom}
-use Rattle.store.specs.declared.Cell.{Cell}
+use Rattle.cells.specs.declared.Cell.{Cell}
+use Rattle.cells.specs.Cells.{cellVector, cellHeaders, cellsAgree, putPlanes}
 use Rattle.store.specs.declared.Store.{Store}
 use Rattle.store.specs.declared.CellAnswer.{CellAnswer}
 use Rattle.store.specs.declared.CellAnswer.the-variants as cell-answer
@@ -52,23 +53,6 @@ emptyStore = record { cells = replicate 320 noCell; count = 0 }
 abbrev pub filled : Store → List Cell
 filled s = take (s .count) (s .cells)
 
-abbrev pub cellWords : Cell → ℕ
-cellWords c = wordCount (c .header .width)
-
--- a cell's words in an arena: from its start word on, as many as its width takes
-abbrev pub span : Cell → List ℕ → List ℕ
-span c arena = take (cellWords c) (drop (c .start) arena)
-
-abbrev pub cellPlanes : Planes → Cell → Planes
-cellPlanes a c = lent (span c (a .value)) (span c (a .unknown))
-
--- a cell's header and bits
-abbrev pub cellVector : Planes → Cell → Vector
-cellVector a c = vector (c .header) (cellPlanes a c)
-
-abbrev pub cellHeaders : List Cell → List Header
-cellHeaders cs = map (λ (c : Cell). c .header) cs
-
 abbrev pub storeHeaders : Store → List Header
 storeHeaders s = cellHeaders (filled s)
 
@@ -82,20 +66,6 @@ cellsOf s = map (cellVector (s .arenas)) (filled (s .store))
 
 -- ---- 14, store and arenas disagree
 
-abbrev pub accepts : Answer Unit → Bool
-accepts (given u) = true
-accepts (refused n) = false
-
--- a cell's span begins at word k and lies within the arenas, and the cell breaks none of 1, 3 and 4; the span has its word count, so 2 never
-unfoldable pub cellAgrees : Planes → ℕ → Cell → Bool
-cellAgrees a k c =
-    eqb (c .start) k && leb (c .start + cellWords c) (length (a .value)) && accepts (checkVector (c .header) (cellPlanes a c))
-
--- the spans lie from word k on without gaps
-unfoldable pub cellsAgree : Planes → ℕ → List Cell → Bool
-cellsAgree a k [] = true
-cellsAgree a k (c ∷ cs) = cellAgrees a k c && cellsAgree a (k + cellWords c) cs
-
 -- at most 320 cells, arenas of equal length, and spans from word 0 on
 unfoldable pub agrees : State → Bool
 agrees s =
@@ -107,13 +77,6 @@ unfoldable pub checkStore : State → Answer Unit
 checkStore s = cond (agrees s) (given tt) (refused 14)
 
 -- ---- a cell put behind the last
-
--- the words of p stand from word k on; all other words stay
-abbrev pub put : ℕ → List ℕ → List ℕ → List ℕ
-put k p arena = take k arena ++ (p ++ drop (k + length p) arena)
-
-abbrev pub putPlanes : ℕ → Planes → Planes → Planes
-putPlanes k p a = lent (put k (p .value) (a .value)) (put k (p .unknown) (a .unknown))
 
 abbrev pub putCell : Header → Store → Store
 putCell h s = record { cells = set (s .cells) (s .count) (record { start = nextWord s; header = h }); count = s .count + 1 }

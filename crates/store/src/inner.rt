@@ -1,56 +1,24 @@
 // The check of a store, a cell's words, and a cell put behind the last. Most of these ask their caller for what the check has found.
-use crate::Cell;
 use crate::PlaceAnswer;
 use crate::Store;
+use cells::Cell;
+use cells::inner::cell_agrees;
+use cells::inner::copy_front;
 use refusal::Refusal;
 use refusal::Verdict;
 use value::Header;
 use value::check_vector;
 use words::word_count;
 ghost use mathlib.Core.Path.{_≡_};
-ghost use mathlib.Core.List.{_++_};
 ghost use Prim.Native.Nat.{_≤_, _<_, _+_};
-ghost use lib.ListN.{length, drop};
+ghost use lib.ListN.{length};
 ghost use Rattle.refusal.specs.Outcome.{after};
 ghost use Rattle.refusal.specs.Outcome.Answer.{given};
 ghost use Rattle.words.specs.Planes.{wordCount, lent, Plane};
 ghost use Rattle.value.specs.Checks.{vector};
-ghost use Rattle.store.specs.Store.{state, cellWords, span, nextWord, cellAgrees, checkStore, checkInput, placeAnswer, appended};
+ghost use Rattle.store.specs.Store.{state, nextWord, checkStore, checkInput, placeAnswer, appended};
 
 pub mod step;
-
-// A cell's words in an arena.
-pub fn cell_words(c: Cell, arena: &[u64]) -> &[u64]
-    requires { ⌜ c .start + cellWords c ≤ length (now arena) ⌝ }
-    ensures { λ r. ⌜ now r ≡ span c (now (arena .entry)) ⌝ }
-{
-    let start = c.start;
-    let h = c.header;
-    let end = start + word_count(h.width);
-    &arena[start..end]
-}
-
-// Whether a cell's span begins at word `at` and lies within the arenas, and the cell breaks none of 1, 3 and 4.
-fn cell_agrees(c: Cell, at: usize, value: &[u64], unknown: &[u64]) -> bool
-    requires { ⌜ (at ≤ length (now value)) × (length (now value) ≡ length (now unknown)) ⌝ }
-    ensures { λ r. ⌜ r ≡ cellAgrees (lent (now (value .entry)) (now (unknown .entry))) at c ⌝ }
-{
-    let start = c.start;
-    let h = c.header;
-    if start != at {
-        return false;
-    }
-    let n = word_count(h.width);
-    if value.len() - at < n {
-        return false;
-    }
-    let v = cell_words(c, value);
-    let u = cell_words(c, unknown);
-    match check_vector(h, v, u) {
-        Verdict::Refused(_) => false,
-        Verdict::Accepted => true,
-    }
-}
 
 // The word at which the next cell begins, if the store agrees with its arenas; else 14.
 pub fn check_store(s: Store, value: &[u64], unknown: &[u64]) -> PlaceAnswer
@@ -105,18 +73,6 @@ pub fn place_input(
                 }
             }
         }
-    }
-}
-
-// Copies words to the front of a plane; its further words stay.
-fn copy_front(plane: &mut [u64], from: &[u64])
-    requires { ⌜ length (now from) ≤ length (now plane) ⌝ }
-    ensures { λ _. ⌜ now (plane .exit) ≡ now (from .entry) ++ drop (length (now (from .entry))) (now (plane .entry)) ⌝ }
-{
-    let mut k = 0;
-    while k < from.len() {
-        plane[k] = from[k];
-        k += 1;
     }
 }
 

@@ -1,5 +1,6 @@
 // The cell store: at most 320 vectors, numbered from 0, whose words lie one behind the other in two lent arenas. The store goes in by value and
 // comes back by value, inside the answer.
+use cells::Cell;
 use ops::Step;
 use refusal::Refusal;
 use value::Header;
@@ -11,12 +12,6 @@ ghost use Rattle.store.specs.Store.{state, emptyStore, cellAnswer, addIn
 ghost use Rattle.store.specs.Step.{memory, addStep};
 
 pub mod inner;
-
-// Where a vector's words begin in both arenas, and its header.
-pub struct Cell {
-    pub start: usize,
-    pub header: Header,
-}
 
 // The first `count` cells are filled.
 pub struct Store {
@@ -40,13 +35,6 @@ pub struct Stored {
 pub enum PlaceAnswer {
     At(usize),
     Refused(Refusal),
-}
-
-// The cells that a step names, in operand order; where its op does not use an operand, the first cell again.
-pub struct Operands {
-    pub a: Cell,
-    pub b: Cell,
-    pub c: Cell,
 }
 
 impl Store {
@@ -102,42 +90,22 @@ impl Store {
     ) -> Stored
         ensures { λ r. ⌜ outcome (cellAnswer (r .answer)) (memory (state (r .store) (lent (now («arena_value» .exit)) (now («arena_unknown» .exit)))) (lent (now («scratch_value» .exit)) (now («scratch_unknown» .exit)))) ≡ addStep (memory (state self (lent (now («arena_value» .entry)) (now («arena_unknown» .entry)))) (lent (now («scratch_value» .entry)) (now («scratch_unknown» .entry)))) step ⌝ }
     {
-        match inner::step::place_step(
+        let place = inner::step::place_step(
             self,
             step,
             arena_value,
             arena_unknown,
             scratch_value,
             scratch_unknown,
-        ) {
-            PlaceAnswer::Refused(r) => Stored {
-                answer: CellAnswer::Refused(r),
-                store: self,
-            },
-            PlaceAnswer::At(at) => {
-                let n = self.count;
-                let h = inner::step::work_step(
-                    self,
-                    step,
-                    arena_value,
-                    arena_unknown,
-                    scratch_value,
-                    scratch_unknown,
-                );
-                let s = inner::step::append_front(
-                    self,
-                    at,
-                    h,
-                    scratch_value,
-                    scratch_unknown,
-                    arena_value,
-                    arena_unknown,
-                );
-                Stored {
-                    answer: CellAnswer::Added(n),
-                    store: s,
-                }
-            }
-        }
+        );
+        inner::step::put_step(
+            self,
+            step,
+            place,
+            arena_value,
+            arena_unknown,
+            scratch_value,
+            scratch_unknown,
+        )
     }
 }

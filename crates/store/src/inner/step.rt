@@ -1,15 +1,17 @@
 // A step: the cells that it names, its check, its result worked out in the scratch planes, and that put behind the last cell. Most of these ask
 // their caller for what the check has found.
-use crate::Operands;
+use crate::CellAnswer;
 use crate::PlaceAnswer;
 use crate::Store;
+use crate::Stored;
 use crate::inner::append;
-use crate::inner::cell_words;
 use crate::inner::check_store;
-use ops::Op;
+use cells::Operands;
+use cells::inner::named;
+use cells::inner::names_filled;
+use cells::inner::work_cells;
 use ops::Step;
 use ops::arms_refused;
-use ops::operand_count;
 use ops::result_header;
 use refusal::Refusal;
 use refusal::Verdict;
@@ -17,47 +19,26 @@ use value::Header;
 use words::word_count;
 use work::inner::work;
 ghost use mathlib.Core.Path.{_≡_};
-ghost use mathlib.Core.Bool.{true, false, cond};
+ghost use mathlib.Core.Bool.{true};
 ghost use Prim.Native.Nat.{_≤_, _<_, _+_, min};
 ghost use lib.ListN.{length, take};
-ghost use Rattle.refusal.specs.Outcome.{verdict, after};
+ghost use Rattle.refusal.specs.Outcome.{outcome, verdict, after};
 ghost use Rattle.refusal.specs.Outcome.Answer.{given};
-ghost use Rattle.words.specs.Planes.{wordCount, lent, planesOf, Plane};
+ghost use Rattle.words.specs.Planes.{wordCount, lent, Plane};
 ghost use Rattle.value.specs.Checks.{vector};
-ghost use Rattle.ops.specs.Ops.{armsRefused, opHeader, opVector};
 ghost use Rattle.machine.specs.Machine.{names, checkStep};
-ghost use Rattle.store.specs.Store.{state, storeHeaders, cellVector, nextWord, cellAgrees, placeAnswer, appended};
-ghost use Rattle.store.specs.Step.{memory, checkMemory, stepVector, worked, namedCells};
-
-// The first number where the test holds, else the second.
-fn choose(test: bool, x: u32, y: u32) -> u32
-    ensures { λ r. ⌜ r ≡ cond test x y ⌝ }
-{
-    if test { x } else { y }
-}
-
-// Whether each operand that the step's op uses names one of the first n cells.
-fn names_filled(n: usize, step: Step) -> bool
-    ensures { λ r. ⌜ r ≡ names n step ⌝ }
-{
-    let op = step.op;
-    let k = operand_count(op);
-    let a = step.a as usize;
-    let b = step.b as usize;
-    let c = step.c as usize;
-    (a < n) & ((k < 2) | (b < n)) & ((k < 3) | (c < n))
-}
+ghost use Rattle.store.specs.Store.{state, storeHeaders, nextWord, cellAnswer, placeAnswer, appended};
+ghost use Rattle.store.specs.Step.{memory, checkMemory, stepVector, worked, stepped, addStep, namedCells};
 
 // The cells that a step names; where its op does not use an operand, the first cell again.
 fn named_cells(s: Store, step: Step) -> Operands
     requires { ⌜ (s .count ≤ 320) × (names (s .count) step ≡ true) ⌝ }
     ensures { λ r. ⌜ r ≡ namedCells s step ⌝ }
 {
-    let op = step.op;
-    let n = operand_count(op);
-    let a = step.a as usize;
-    let b = choose(n < 2, step.a, step.b) as usize;
-    let c = choose(n < 3, step.a, step.c) as usize;
+    let t = named(step);
+    let a = t.a as usize;
+    let b = t.b as usize;
+    let c = t.c as usize;
     Operands {
         a: s.cells[a],
         b: s.cells[b],
@@ -132,49 +113,8 @@ pub fn place_step(
     }
 }
 
-// The op on three cells, into planes of the result's word count.
-fn work_cells(
-    op: Op,
-    o: Operands,
-    pos: usize,
-    arena_value: &[u64],
-    arena_unknown: &[u64],
-    ov: &mut [u64],
-    ou: &mut [u64],
-)
-    requires { ⌜ length (now «arena_value») ≡ length (now «arena_unknown») ⌝ }
-    requires { ⌜ cellAgrees (lent (now «arena_value») (now «arena_unknown»)) (o .a .start) (o .a) ≡ true ⌝ }
-    requires { ⌜ cellAgrees (lent (now «arena_value») (now «arena_unknown»)) (o .b .start) (o .b) ≡ true ⌝ }
-    requires { ⌜ cellAgrees (lent (now «arena_value») (now «arena_unknown»)) (o .c .start) (o .c) ≡ true ⌝ }
-    requires { ⌜ armsRefused op (o .b .header) (o .c .header) ≡ false ⌝ }
-    requires { ⌜ (length (now ov) ≡ wordCount (opHeader op (o .a .header) (o .b .header) (o .c .header) .width)) × (length (now ou) ≡ wordCount (opHeader op (o .a .header) (o .b .header) (o .c .header) .width)) ⌝ }
-    ensures { λ _. ⌜ lent (now (ov .exit)) (now (ou .exit)) ≡ planesOf (opVector op (cellVector (lent (now («arena_value» .entry)) (now («arena_unknown» .entry))) (o .a)) (cellVector (lent (now («arena_value» .entry)) (now («arena_unknown» .entry))) (o .b)) (cellVector (lent (now («arena_value» .entry)) (now («arena_unknown» .entry))) (o .c)) pos .bits) ⌝ }
-{
-    let av = cell_words(o.a, arena_value);
-    let au = cell_words(o.a, arena_unknown);
-    let bv = cell_words(o.b, arena_value);
-    let bu = cell_words(o.b, arena_unknown);
-    let cv = cell_words(o.c, arena_value);
-    let cu = cell_words(o.c, arena_unknown);
-    work(
-        op,
-        o.a.header,
-        av,
-        au,
-        o.b.header,
-        bv,
-        bu,
-        o.c.header,
-        cv,
-        cu,
-        pos,
-        ov,
-        ou,
-    );
-}
-
 // The result of a step that is not refused, worked out in the first words of the scratch planes; its header.
-pub fn work_step(
+fn work_step(
     s: Store,
     step: Step,
     arena_value: &[u64],
@@ -204,7 +144,7 @@ pub fn work_step(
 }
 
 // Puts the vector that the scratch planes begin with behind the last cell, where the next one begins.
-pub fn append_front(
+fn append_front(
     s: Store,
     at: usize,
     h: Header,
@@ -224,4 +164,74 @@ pub fn append_front(
     let value = &scratch_value[0..n];
     let unknown = &scratch_unknown[0..n];
     append(s, at, h, value, unknown, arena_value, arena_unknown)
+}
+
+// Works out a step that is not refused, and puts its result behind the last cell, where the next one begins.
+fn put_result(
+    s: Store,
+    step: Step,
+    at: usize,
+    arena_value: &mut [u64],
+    arena_unknown: &mut [u64],
+    scratch_value: &mut [u64],
+    scratch_unknown: &mut [u64],
+) -> Store
+    requires { ⌜ at ≡ nextWord s ⌝ }
+    requires { ⌜ checkMemory (memory (state s (lent (now «arena_value») (now «arena_unknown»))) (lent (now «scratch_value») (now «scratch_unknown»))) step ≡ given tt ⌝ }
+    ensures { λ r. ⌜ memory (state r (lent (now («arena_value» .exit)) (now («arena_unknown» .exit)))) (lent (now («scratch_value» .exit)) (now («scratch_unknown» .exit))) ≡ stepped (stepVector (state s (lent (now («arena_value» .entry)) (now («arena_unknown» .entry)))) step) (memory (state s (lent (now («arena_value» .entry)) (now («arena_unknown» .entry)))) (lent (now («scratch_value» .entry)) (now («scratch_unknown» .entry)))) ⌝ }
+{
+    let h = work_step(
+        s,
+        step,
+        arena_value,
+        arena_unknown,
+        scratch_value,
+        scratch_unknown,
+    );
+    append_front(
+        s,
+        at,
+        h,
+        scratch_value,
+        scratch_unknown,
+        arena_value,
+        arena_unknown,
+    )
+}
+
+// Puts the result of a step behind the last cell, where the check has found a place for it.
+pub fn put_step(
+    s: Store,
+    step: Step,
+    place: PlaceAnswer,
+    arena_value: &mut [u64],
+    arena_unknown: &mut [u64],
+    scratch_value: &mut [u64],
+    scratch_unknown: &mut [u64],
+) -> Stored
+    requires { ⌜ placeAnswer place ≡ after (checkMemory (memory (state s (lent (now «arena_value») (now «arena_unknown»))) (lent (now «scratch_value») (now «scratch_unknown»))) step) (given (nextWord s)) ⌝ }
+    ensures { λ r. ⌜ outcome (cellAnswer (r .answer)) (memory (state (r .store) (lent (now («arena_value» .exit)) (now («arena_unknown» .exit)))) (lent (now («scratch_value» .exit)) (now («scratch_unknown» .exit)))) ≡ addStep (memory (state s (lent (now («arena_value» .entry)) (now («arena_unknown» .entry)))) (lent (now («scratch_value» .entry)) (now («scratch_unknown» .entry)))) step ⌝ }
+{
+    match place {
+        PlaceAnswer::Refused(r) => Stored {
+            answer: CellAnswer::Refused(r),
+            store: s,
+        },
+        PlaceAnswer::At(at) => {
+            let n = s.count;
+            let t = put_result(
+                s,
+                step,
+                at,
+                arena_value,
+                arena_unknown,
+                scratch_value,
+                scratch_unknown,
+            );
+            Stored {
+                answer: CellAnswer::Added(n),
+                store: t,
+            }
+        }
+    }
 }

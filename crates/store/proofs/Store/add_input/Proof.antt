@@ -8,7 +8,7 @@ use Rattle.refusal.specs.Outcome.Answer.{given}
 use Rattle.words.specs.Planes.{Planes, lent}
 use Rattle.store.specs.Store.{State, state, nextWord, checkInput, placeAnswer}
 use Rattle.store.proofs.Answers.{answer-given, answer-refused}
-use Rattle.store.proofs.Spans.{state-agrees}
+use Rattle.store.proofs.Agreed.{state-agrees}
 use Rattle.store.proofs.Inputs.{Accepted, input-accepted}
 use borrow.Author.Needs.{needs}
 use Rattle.store.proofs.Store.add_input.Statement.{statement}

@@ -3,7 +3,7 @@ use mathlib.Core.Path.{ap}
 use lib.ListN.{replicate}
 use Rattle.value.specs.declared.Header.{Header}
 use Rattle.store.specs.declared.Store.{Store}
-use Rattle.store.specs.declared.Cell.{Cell}
+use Rattle.cells.specs.declared.Cell.{Cell}
 use Rattle.store.specs.Store.{emptyStore}
 use borrow.Author.Needs.{needs}
 use Rattle.store.proofs.Store.new.Statement.{statement}

@@ -1,15 +1,16 @@
 -- `store::inner::append`: each arena's end part is written, and the planes are those of the vector that they hold.
 use mathlib.Core.Path.{_≡_, ap, ap₂, _∙_}
 use mathlib.Core.List.{List}
-use Prim.Native.Nat.{ℕ, _+_, _-_, _^_, _<_}
+use Prim.Native.Nat.{ℕ, _+_, _^_, _<_}
 use lib.ListN.{getD, set}
 use Rattle.words.specs.Planes.{Planes, lent, planesOf, fromPlanes, Plane}
 use Rattle.planes.proofs.Splice.{planes-again}
 use Rattle.value.specs.declared.Header.{Header}
 use Rattle.value.specs.Checks.{vector}
 use Rattle.store.specs.declared.Store.{Store}
-use Rattle.store.specs.Store.{state, nextWord, putPlanes, appended}
-use Rattle.store.proofs.Tail.{tail-back}
+use Rattle.cells.specs.Cells.{putPlanes}
+use Rattle.store.specs.Store.{state, nextWord, appended}
+use Rattle.cells.proofs.Tail.{tail-back}
 use borrow.Author.Needs.{needs}
 use Rattle.store.proofs.inner.append.Statement.{statement}
 use Rattle.store.proofs.inner.append.Tie as tie

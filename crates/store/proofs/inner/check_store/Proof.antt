@@ -7,9 +7,10 @@ use lib.ListN.{length, getD, length-map}
 use borrow.Author.Tests.{not-true, not-false}
 use borrow.Author.Needs.{needs}
 use Rattle.words.specs.Planes.{lent}
-use Rattle.store.specs.declared.Cell.{Cell}
-use Rattle.store.specs.Store.{State, state, noCell, nextWord, cellAgrees}
-use Rattle.store.proofs.Spans.{cell-fits}
+use Rattle.cells.specs.declared.Cell.{Cell}
+use Rattle.cells.specs.Cells.{cellAgrees}
+use Rattle.store.specs.Store.{State, state, noCell, nextWord}
+use Rattle.cells.proofs.Spans.{cell-fits}
 use Rattle.store.proofs.Walk.{Left, left-start, left-more, left-wrong, left-done, too-many, uneven, cell-wrong, all-right}
 use Rattle.store.proofs.inner.check_store.Statement.{statement}
 use Rattle.store.proofs.inner.check_store.Tie as tie

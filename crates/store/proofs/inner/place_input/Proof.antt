@@ -11,7 +11,7 @@ use Rattle.refusal.specs.Outcome.Answer.{given}
 use Rattle.words.specs.Planes.{wordCount, lent}
 use Rattle.store.specs.Store.{State, state, storeHeaders, nextWord, agrees, checkStore, placeAnswer}
 use Rattle.store.proofs.Answers.{answer-given, answer-refused}
-use Rattle.store.proofs.Spans.{store-accepted, state-agrees, headers-count, next-within}
+use Rattle.store.proofs.Agreed.{store-accepted, state-agrees, headers-count, next-within}
 use borrow.Author.Needs.{needs}
 use Rattle.store.proofs.inner.place_input.Statement.{statement}
 use Rattle.store.proofs.inner.place_input.Tie as tie

@@ -10,9 +10,9 @@ use Rattle.words.specs.Planes.{wordCount}
 use Rattle.value.specs.declared.Header.{Header}
 use Rattle.ops.specs.Ops.{armsRefused, opHeader}
 use Rattle.machine.specs.Machine.{headerAt, names, stepHeader, wordsTaken, checkStep}
-use Rattle.store.specs.declared.Operands.{Operands}
+use Rattle.cells.specs.declared.Operands.{Operands}
 use Rattle.store.specs.Store.{storeHeaders}
-use Rattle.store.proofs.Spans.{headers-count}
+use Rattle.store.proofs.Agreed.{headers-count}
 use Rattle.store.proofs.Named.{arms-named, header-named}
 use borrow.Author.Needs.{needs}
 use Rattle.store.proofs.inner.step.check_step.Statement.{statement}

@@ -10,7 +10,7 @@ use Rattle.words.specs.Planes.{Planes, lent}
 use Rattle.machine.specs.Machine.{checkStep}
 use Rattle.store.specs.Store.{State, state, storeHeaders, nextWord, agrees, checkStore, roomOf, placeAnswer}
 use Rattle.store.proofs.Answers.{answer-given, answer-refused}
-use Rattle.store.proofs.Spans.{store-accepted, state-agrees, next-within}
+use Rattle.store.proofs.Agreed.{store-accepted, state-agrees, next-within}
 use borrow.Author.Needs.{needs}
 use Rattle.store.proofs.inner.step.place_step.Statement.{statement}
 use Rattle.store.proofs.inner.step.place_step.Tie as tie

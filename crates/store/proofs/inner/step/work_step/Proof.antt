@@ -9,13 +9,16 @@ use Rattle.words.specs.Planes.{wordCount, lent, planesOf}
 use Rattle.value.specs.declared.Header.{Header}
 use Rattle.value.specs.Checks.{Vector}
 use Rattle.ops.specs.Ops.{armsRefused, opVector}
-use Rattle.store.specs.declared.Operands.{Operands}
-use Rattle.store.specs.Store.{state, cellVector, cellAgrees}
+use Rattle.cells.specs.declared.Operands.{Operands}
+use Rattle.cells.specs.Cells.{cellVector, cellAgrees}
+use Rattle.store.specs.Store.{state}
 use Rattle.store.specs.Step.{Memory, memory, stepVector}
-use Rattle.store.proofs.Spans.{fits-cell, state-agrees}
+use Rattle.cells.proofs.Spans.{fits-cell}
+use Rattle.store.proofs.Agreed.{state-agrees}
 use Rattle.store.proofs.Held.{storable-sound}
 use Rattle.store.proofs.Named.{vector-named}
-use Rattle.store.proofs.Steps.{Admitted, step-admitted, named-fits, step-storable, front-back}
+use Rattle.cells.proofs.Tail.{front-back}
+use Rattle.store.proofs.Steps.{Admitted, step-admitted, named-fits, step-storable}
 use borrow.Author.Needs.{needs}
 use Rattle.store.proofs.inner.step.work_step.Statement.{statement}
 use Rattle.store.proofs.inner.step.work_step.Tie as tie

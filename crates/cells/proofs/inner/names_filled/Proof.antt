@@ -1,11 +1,11 @@
--- `store::inner::step::names_filled`: by the number of operands.
+-- `cells::inner::names_filled`: by the number of operands.
 use mathlib.Core.Path.{ap}
 use mathlib.Core.Bool.{_&&_, _||_}
 use Prim.Native.Nat.{ℕ}
 use lib.Dec.{ltb}
 use borrow.Author.Needs.{needs}
-use Rattle.store.proofs.inner.step.names_filled.Statement.{statement}
-use Rattle.store.proofs.inner.step.names_filled.Tie as tie
+use Rattle.cells.proofs.inner.names_filled.Statement.{statement}
+use Rattle.cells.proofs.inner.names_filled.Tie as tie
 
 operand-count-requires : tie.Need-operand-count-requires
 operand-count-requires c κs = search needs

@@ -1,12 +1,12 @@
--- `store::inner::cell_words`: the part from the start word on, as long as the width's words.
+-- `cells::inner::cell_words`: the part from the start word on, as long as the width's words.
 use mathlib.Core.Path.{_≡_, ap}
 use Prim.Native.Nat.{ℕ, _+_, _-_}
 use native.Mathlib.Omega.{arith}
 use lib.ListN.{take, drop}
-use Rattle.store.specs.Store.{cellWords}
+use Rattle.cells.specs.Cells.{cellWords}
 use borrow.Author.Needs.{needs}
-use Rattle.store.proofs.inner.cell_words.Statement.{statement}
-use Rattle.store.proofs.inner.cell_words.Tie as tie
+use Rattle.cells.proofs.inner.cell_words.Statement.{statement}
+use Rattle.cells.proofs.inner.cell_words.Tie as tie
 
 word-count-requires : tie.Need-word-count-requires
 word-count-requires c κs = search needs

@@ -1,4 +1,4 @@
--- `store::inner::cell_agrees`: each test decides, and at last the check of the cell's vector.
+-- `cells::inner::cell_agrees`: each test decides, and at last the check of the cell's vector.
 use mathlib.Core.Path.{_≡_, sym, ap, ap₂, _∙_}
 use mathlib.Core.List.{List}
 use Prim.Native.Nat.{ℕ, _+_, _≤_, _<_}
@@ -8,11 +8,11 @@ use Rattle.refusal.specs.declared.Verdict.{Verdict}
 use Rattle.refusal.specs.Outcome.{verdict}
 use Rattle.words.specs.Planes.{lent}
 use Rattle.value.specs.Checks.{checkVector}
-use Rattle.store.specs.Store.{cellWords, cellPlanes, accepts, cellAgrees}
+use Rattle.cells.specs.Cells.{cellWords, cellPlanes, accepts, cellAgrees}
 use borrow.Author.Tests.{eq-eqb, ne-eqb, le-leb, lt-leb}
 use borrow.Author.Needs.{needs}
-use Rattle.store.proofs.inner.cell_agrees.Statement.{statement}
-use Rattle.store.proofs.inner.cell_agrees.Tie as tie
+use Rattle.cells.proofs.inner.cell_agrees.Statement.{statement}
+use Rattle.cells.proofs.inner.cell_agrees.Tie as tie
 
 -- by the check's verdict, where the span begins and ends as it should
 module _ (k : tie.After-check-vector) where

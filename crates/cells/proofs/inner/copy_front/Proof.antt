@@ -1,4 +1,4 @@
--- `store::inner::copy_front`: the first k words are copied (`paste`).
+-- `cells::inner::copy_front`: the first k words are copied (`paste`).
 use mathlib.Core.Path.{_≡_, refl, sym, ap, _∙_}
 use mathlib.Core.List.{List, _++_}
 use Prim.Native.Nat.{ℕ, _≤_, _<_, _+_, _-_}
@@ -8,8 +8,8 @@ use native.Mathlib.Omega.{arith}
 use borrow.Author.Needs.{needs}
 use lib.ListN.{length, set, getD, drop, length-set}
 use lib.Seq.{paste, paste-zero, paste-suc, take-length}
-use Rattle.store.proofs.inner.copy_front.Statement.{statement}
-use Rattle.store.proofs.inner.copy_front.Tie as tie
+use Rattle.cells.proofs.inner.copy_front.Statement.{statement}
+use Rattle.cells.proofs.inner.copy_front.Tie as tie
 
 abbrev Inv-loop : tie.InvT-loop
 Inv-loop plane₀ from k₀ plane k = (plane ≡ paste plane₀ 0 from k) × (k ≤ length from) × (length plane ≡ length plane₀)

@@ -1,30 +1,33 @@
 -- Cells whose spans lie one behind the other.
+--     both                        two tests that hold together
 --     cell-fits, fits-cell        what is asked of one cell, as facts
---     cells-within, next-within   the cells' words lie within the arenas
+--     cells-within                the cells' words lie within the arenas
 --     cells-snoc                  one cell more
+--     cell-there                  each cell fits
 --     cells-same                  words behind the cells do not matter
---     headers-count               there are as many headers as filled cells
---     filled-fits                 each filled cell fits
---     state-agrees, agrees-state, store-accepted     what is asked of a store and its arenas, as facts
+--     fits-read                   a cell that fits lies within the arenas, and its planes are those of a vector
 use mathlib.Core.Path.{_≡_, refl, sym, ap, ap₂, _∙_}
-use mathlib.Core.Bool.{Bool, true, false, _&&_, cond}
+use mathlib.Core.Bool.{Bool, true, false, _&&_}
 use mathlib.Core.List.{List, [], _∷_, _++_, map}
-use Prim.Native.Nat.{ℕ, zero, suc, _+_, _-_, _≤_, _<_}
+use Prim.Native.Nat.{ℕ, zero, suc, _+_, _≤_, _<_}
 use native.Mathlib.Nat.{le-of-suc-le-suc, not-suc-le-zero}
 use native.Mathlib.Omega.{arith}
 use borrow.Author.Tests.{eqb-true, leb-true, eq-eqb, le-leb}
 use lib.Dec.{eqb, leb}
-use lib.ListN.{length, getD, take, drop, length-map}
+use lib.ListN.{length, getD, take, drop}
 use lib.Seq.{take-add, take-take, drop-at, length-take-le}
 use Rattle.refusal.specs.Outcome.{Answer}
 use Rattle.refusal.specs.Outcome.Answer.{given, refused}
 use Rattle.words.specs.Planes.{Planes, lent}
 use Rattle.value.specs.Checks.{Vector, vector, checkVector}
+use Rattle.value.proofs.Checks.{Sound, vector-accepted}
 use Rattle.machine.specs.Machine.{wordsTaken}
-use Rattle.store.specs.declared.Cell.{Cell}
-use Rattle.store.specs.declared.Store.{Store}
-use Rattle.store.specs.Store.{State, filled, cellWords, span, cellPlanes, cellVector, cellHeaders, storeHeaders, nextWord, accepts, cellAgrees, cellsAgree, agrees, checkStore}
-use Rattle.store.proofs.Answers.{both, not-given}
+use Rattle.cells.specs.declared.Cell.{Cell}
+use Rattle.cells.specs.Cells.{cellWords, span, cellPlanes, cellVector, cellHeaders, accepts, cellAgrees, cellsAgree}
+
+pub both : (a b : Bool) → a && b ≡ true → (a ≡ true) × (b ≡ true)
+both true b h = (refl, h)
+both false b h = let z : _≡_ {A = ℕ} 0 1 = cc in absurd (omega arith)
 
 -- ---- one cell
 
@@ -75,7 +78,7 @@ cells-snoc a (b ∷ cs) c k h g =
     let z : k + cellWords b + wordsTaken (cellHeaders cs) ≡ k + (cellWords b + wordsTaken (cellHeaders cs)) = omega arith in
     simp (fits-cell a k b (p .0)) (cells-snoc a cs c (k + cellWords b) (p .1) (ap (λ (n : ℕ). cellAgrees a n c) z ∙ g))
 
-cell-there : (a : Planes) (cs : List Cell) (k i : ℕ) (d : Cell) → cellsAgree a k cs ≡ true → i < length cs → Fits a (getD cs i d .start) (getD cs i d)
+pub cell-there : (a : Planes) (cs : List Cell) (k i : ℕ) (d : Cell) → cellsAgree a k cs ≡ true → i < length cs → Fits a (getD cs i d .start) (getD cs i d)
 cell-there a [] k i d h l = absurd (not-suc-le-zero l)
 cell-there a (c ∷ cs) k zero d h l =
     let f = cells-split a k c cs h .0 in record { begins = refl; within = f .within; sound = f .sound }
@@ -120,49 +123,16 @@ module _ (a b : Planes) (n : ℕ) (long : n ≤ length (a .value)) (lv : length 
         ap₂ (λ (p : Planes) (vs : List Vector). vector (c .header) p ∷ vs) (sym e) (r .1),
       )
 
--- ---- store and arenas
+-- ---- reading
 
-pub record Agreed (s : State) : Type 0 where
-  pub few : s .store .count ≤ 320
-  pub level : length (s .arenas .value) ≡ length (s .arenas .unknown)
-  pub cells : cellsAgree (s .arenas) 0 (filled (s .store)) ≡ true
+pub record Readable (a : Planes) (c : Cell) : Type 0 where
+  pub value-within : c .start + cellWords c ≤ length (a .value)
+  pub unknown-within : c .start + cellWords c ≤ length (a .unknown)
+  pub sound : Sound (c .header) (cellPlanes a c)
 
-pub state-agrees : (s : State) → agrees s ≡ true → Agreed s
-unfolding agrees
-state-agrees s h =
-    let x = leb (s .store .count) 320 in
-    let y = eqb (length (s .arenas .value)) (length (s .arenas .unknown)) in
-    let p = both (x && y) (cellsAgree (s .arenas) 0 (filled (s .store))) h in
-    let q = both x y (p .0) in
-    record { few = leb-true _ _ (q .0); level = eqb-true _ _ (q .1); cells = p .1 }
-
-pub agrees-state : (s : State) → Agreed s → agrees s ≡ true
-unfolding agrees
-agrees-state s h = simp (le-leb _ _ (h .few), eq-eqb _ _ (h .level), h .cells)
-
--- there are as many headers as filled cells
-filled-count : (s : Store) → length (s .cells) ≡ 320 → s .count ≤ 320 → length (filled s) ≡ s .count
-filled-count s n h = length-take-le (s .count) (s .cells) (omega arith)
-
-pub headers-count : (s : Store) → length (s .cells) ≡ 320 → s .count ≤ 320 → length (storeHeaders s) ≡ s .count
-headers-count s n h = length-map (filled s) (λ (c : Cell). c .header) ∙ filled-count s n h
-
-pub filled-fits : (s : State) (i : ℕ) (d : Cell) → length (s .store .cells) ≡ 320 → agrees s ≡ true → i < s .store .count
-    → Fits (s .arenas) (getD (filled (s .store)) i d .start) (getD (filled (s .store)) i d)
-filled-fits s i d n h l =
-    let g = state-agrees s h in
-    cell-there (s .arenas) (filled (s .store)) 0 i d (g .cells) (omega (arith, filled-count (s .store) n (g .few)))
-
--- the next cell begins within the arenas
-pub next-within : (s : State) → agrees s ≡ true → nextWord (s .store) ≤ length (s .arenas .value)
-next-within s h =
-    let w = cells-within (s .arenas) (filled (s .store)) 0 (omega arith) (state-agrees s h .cells) in
-    omega arith
-
-pub store-accepted : (s : State) → checkStore s ≡ given tt → agrees s ≡ true
-unfolding checkStore
-store-accepted s h = go (agrees s) h
-  where
-    go : (b : Bool) → _≡_ {A = Answer Unit} (cond b (given tt) (refused 14)) (given tt) → b ≡ true
-    go true h = refl
-    go false h = absurd (not-given 14 tt h)
+pub fits-read : (a : Planes) (k : ℕ) (c : Cell) → length (a .value) ≡ length (a .unknown) → Fits a k c → Readable a c
+fits-read a k c e f = record {
+  value-within = f .within;
+  unknown-within = omega (arith, f .within, e);
+  sound = vector-accepted (c .header) (cellPlanes a c) (f .sound);
+}

@@ -1,4 +1,4 @@
--- `store::inner::step::work_cells`: each cell's spans are planes of its width.
+-- `cells::inner::work_cells`: each cell's spans are planes of its width.
 use mathlib.Core.Path.{_≡_, sym, _∙_, subst}
 use mathlib.Core.Bool.{true}
 use mathlib.Core.List.{List}
@@ -6,13 +6,12 @@ use Prim.Native.Nat.{ℕ}
 use Rattle.words.specs.Planes.{Planes, lent, planesOf, Plane}
 use Rattle.value.specs.Checks.{vector}
 use Rattle.ops.specs.Ops.{opVector}
-use Rattle.store.specs.declared.Cell.{Cell}
-use Rattle.store.specs.Store.{span, cellAgrees}
-use Rattle.store.proofs.Spans.{cell-fits}
-use Rattle.store.proofs.Held.{Readable, fits-read}
+use Rattle.cells.specs.declared.Cell.{Cell}
+use Rattle.cells.specs.Cells.{span, cellAgrees}
+use Rattle.cells.proofs.Spans.{cell-fits, Readable, fits-read}
 use borrow.Author.Needs.{needs}
-use Rattle.store.proofs.inner.step.work_cells.Statement.{statement}
-use Rattle.store.proofs.inner.step.work_cells.Tie as tie
+use Rattle.cells.proofs.inner.work_cells.Statement.{statement}
+use Rattle.cells.proofs.inner.work_cells.Tie as tie
 
 abbrev arenas : tie.Start → Planes
 arenas s = lent (s .args .arena-value .now) (s .args .arena-unknown .now)

@@ -1,0 +1,70 @@
+-- Document 01, "Cell store", "Step list" and "Numbers for what is not done": cells whose spans lie one behind the other in two lent arenas, what cells
+-- and arenas must agree on, words put into an arena, and the numbers of the cells that a step names.
+use mathlib.Core.Bool.{Bool, true, false, _&&_, cond}
+use mathlib.Core.List.{List, [], _∷_, _++_, map}
+use Prim.Native.Nat.{ℕ, _+_}
+use lib.Dec.{eqb, leb, ltb}
+use lib.ListN.{length, take, drop}
+use Rattle.refusal.specs.Outcome.{Answer}
+use Rattle.refusal.specs.Outcome.Answer.{given, refused}
+use Rattle.words.specs.Planes.{wordCount, Planes, lent}
+use Rattle.value.specs.declared.Header.{Header}
+use Rattle.value.specs.Checks.{Vector, vector, checkVector}
+use Rattle.ops.specs.declared.Step.{Step}
+use Rattle.ops.specs.Ops.{operands}
+use Rattle.cells.specs.declared.Cell.{Cell}
+
+-- ---- what a cell holds
+
+abbrev pub cellWords : Cell → ℕ
+cellWords c = wordCount (c .header .width)
+
+-- a cell's words in an arena: from its start word on, as many as its width takes
+abbrev pub span : Cell → List ℕ → List ℕ
+span c arena = take (cellWords c) (drop (c .start) arena)
+
+abbrev pub cellPlanes : Planes → Cell → Planes
+cellPlanes a c = lent (span c (a .value)) (span c (a .unknown))
+
+-- a cell's header and bits
+abbrev pub cellVector : Planes → Cell → Vector
+cellVector a c = vector (c .header) (cellPlanes a c)
+
+abbrev pub cellHeaders : List Cell → List Header
+cellHeaders cs = map (λ (c : Cell). c .header) cs
+
+-- ---- 14, cells and arenas disagree
+
+abbrev pub accepts : Answer Unit → Bool
+accepts (given u) = true
+accepts (refused n) = false
+
+-- a cell's span begins at word k and lies within the arenas, and the cell breaks none of 1, 3 and 4; the span has its word count, so 2 never
+unfoldable pub cellAgrees : Planes → ℕ → Cell → Bool
+cellAgrees a k c =
+    eqb (c .start) k && leb (c .start + cellWords c) (length (a .value)) && accepts (checkVector (c .header) (cellPlanes a c))
+
+-- the spans lie from word k on without gaps
+unfoldable pub cellsAgree : Planes → ℕ → List Cell → Bool
+cellsAgree a k [] = true
+cellsAgree a k (c ∷ cs) = cellAgrees a k c && cellsAgree a (k + cellWords c) cs
+
+-- ---- words put into an arena
+
+-- the words of p stand from word k on; all other words stay
+abbrev pub put : ℕ → List ℕ → List ℕ → List ℕ
+put k p arena = take k arena ++ (p ++ drop (k + length p) arena)
+
+abbrev pub putPlanes : ℕ → Planes → Planes → Planes
+putPlanes k p a = lent (put k (p .value) (a .value)) (put k (p .unknown) (a .unknown))
+
+-- ---- the cells that a step names
+
+-- an operand that the op does not use is ignored: the number of a stands for it
+abbrev pub named : Step → Step
+named s = record {
+  op = s .op;
+  a = s .a;
+  b = cond (ltb (operands (s .op)) 2) (s .a) (s .b);
+  c = cond (ltb (operands (s .op)) 3) (s .a) (s .c);
+}
