@@ -29,13 +29,16 @@ fn count(s: &[u8], show: bool) -> u64 {
     agreed
 }
 
-fn work(path: &[u8], show: bool) {
+// Works a table and writes how many of its lines agree; gives whether any does.
+fn work(path: &[u8], show: bool) -> bool {
     let mut s = io::large_buffer();
     let n = table(path, &mut s);
-    total(path, count(&s[0..n], show));
+    total(path, count(&s[0..n], show))
 }
 
 fn main() {
-    work(b"worked", true);
-    work(b"answers", false);
+    // where no worked case agrees, nothing can be told of the answers
+    if work(b"worked", true) {
+        work(b"answers", false);
+    }
 }

@@ -12,8 +12,10 @@ use ffi_answers::vowherunga_reduce_or;
 use ffi_answers::vowherunga_reduce_xor;
 use ffi_answers::vowherunga_wildcard_eq;
 use replay::Field;
+use replay::inner::call_of;
 use replay::inner::field;
 use replay::inner::plain;
+use replay::is_bit;
 use value::Header;
 
 // An answer bit of one operand.
@@ -64,13 +66,20 @@ fn of_vectors(
     }
 }
 
-// Whether a call gave the answer of its line.
-fn is_answer(f: Field, r: BitResult) -> bool {
-    if r.refusal != 0 {
-        return f.is_refusal && f.number == r.refusal as u64;
+// An answer bit of two operands.
+fn of_both(
+    call: usize,
+    a: Field,
+    av: &[u64],
+    au: &[u64],
+    b: Field,
+    bv: &[u64],
+    bu: &[u64],
+) -> BitResult {
+    if call < 17 {
+        return of_two(call, a, av, au, b, bv, bu);
     }
-    let w = f.word;
-    !f.is_refusal && w.value == r.bit as u64 % 2 && w.unknown == r.bit as u64 / 2
+    of_vectors(call, a.header, av, au, b.header, bv, bu)
 }
 
 // The operators whose left operand is lent.
@@ -83,20 +92,12 @@ fn on_left(call: usize, line: &[u8], a: Field, av: &[u64], au: &[u64]) -> BitRes
     let b = field(line, 4, &mut value, &mut unknown);
     let m = b.value;
     let n = b.unknown;
-    let bv = &value[0..m];
-    let bu = &unknown[0..n];
-    if call < 17 {
-        return of_two(call, a, av, au, b, bv, bu);
-    }
-    let x = a.header;
-    let y = b.header;
-    of_vectors(call, x, av, au, y, bv, bu)
+    of_both(call, a, av, au, b, &value[0..m], &unknown[0..n])
 }
 
 // Whether the call of a line has the line's answer.
 pub(crate) fn agrees(line: &[u8]) -> bool {
-    let name = plain(line, 2);
-    let call = name.call;
+    let call = call_of(line);
     if call < 10 {
         return false;
     }
@@ -108,6 +109,8 @@ pub(crate) fn agrees(line: &[u8]) -> bool {
     let a = field(line, 3, &mut value, &mut unknown);
     let m = a.value;
     let n = a.unknown;
-    let r = on_left(call, line, a, &value[0..m], &unknown[0..n]);
-    is_answer(plain(line, 0), r)
+    is_bit(
+        plain(line, 0),
+        on_left(call, line, a, &value[0..m], &unknown[0..n]),
+    )
 }

@@ -1,9 +1,8 @@
-// Calls on bits and words, and the constructors, worked by the exports of `ffi` and compared; the crate `replay` tells how a table is written.
+// Calls on bits and words, worked by the exports of `ffi` and compared; the crate `replay` tells how a table is written.
 // The table `worked` has cases of document 01 and of each edge; each call that agrees is written, and the file `stdout` holds them. The table
 // `answers` has the reference's answers to drawn inputs, of which those that agree are counted; at the repository's root it is made by
 //
 //     cargo run --offline --manifest-path rust/Cargo.toml --features reference --bin answers bit_cases >crates/bit_cases/data/answers
-mod answer;
 mod bits;
 
 use bits::agrees;
@@ -30,13 +29,16 @@ fn count(s: &[u8], show: bool) -> u64 {
     agreed
 }
 
-fn work(path: &[u8], show: bool) {
+// Works a table and writes how many of its lines agree; gives whether any does.
+fn work(path: &[u8], show: bool) -> bool {
     let mut s = io::large_buffer();
     let n = table(path, &mut s);
-    total(path, count(&s[0..n], show));
+    total(path, count(&s[0..n], show))
 }
 
 fn main() {
-    work(b"worked", true);
-    work(b"answers", false);
+    // where no worked case agrees, nothing can be told of the answers
+    if work(b"worked", true) {
+        work(b"answers", false);
+    }
 }

@@ -1,9 +1,11 @@
 // The readers of a table. What they promise is what a program needs to go on: places in the text and in the planes that are lent.
 use crate::Field;
+use crate::holds;
 use crate::text::bare;
 use crate::text::decimal;
 use crate::text::digits;
 use crate::text::extent_of;
+use crate::text::fits;
 use crate::text::is_real;
 use crate::text::load;
 use crate::text::number_of;
@@ -14,10 +16,12 @@ use crate::text::word;
 use libc::STDOUT_FILENO;
 use words::inner::least;
 ghost use mathlib.Core.Path.{_≡_};
+ghost use mathlib.Core.Bool.{_&&_};
 ghost use Prim.Native.Nat.{_≤_};
 ghost use lib.Dec.{ltb};
 ghost use lib.ListN.{length};
 ghost use Rattle.io.specs.Counts.{Counts};
+ghost use Rattle.replay.specs.Holds.{TellsHeld, holdsFrom};
 
 // The table in a file, if it is shorter than the buffer, and else an empty one.
 pub fn table(path: &[u8], s: &mut [u8]) -> usize
@@ -45,6 +49,17 @@ pub fn line_end(s: &[u8], at: usize) -> usize
     until(s, at, b'\n')
 }
 
+// The number of the call of a line, by its place in `text::number_of`. It is 26, which is none, where the name is none, and where a vector asks
+// for more words than are lent: 16,385 for the first operand, 65 for the others.
+pub fn call_of(line: &[u8]) -> usize
+    ensures { λ r. ⌜ r ≤ 26 ⌝ }
+{
+    if !fits(line, 3, 16385) || !fits(line, 4, 65) || !fits(line, 5, 65) {
+        return 26;
+    }
+    number_of(part(line, 2, b' '))
+}
+
 // Field k of a line; a vector's planes are written to the lent ones, as far as those reach.
 pub fn field(line: &[u8], k: usize, value: &mut [u64], unknown: &mut [u64]) -> Field
     ensures { λ r. ⌜ (r .value ≤ length (now (value .exit))) × (r .unknown ≤ length (now (unknown .exit))) ⌝ }
@@ -57,7 +72,6 @@ pub fn field(line: &[u8], k: usize, value: &mut [u64], unknown: &mut [u64]) -> F
     load(digits(s), 1, value, m);
     load(digits(s), 2, unknown, n);
     Field {
-        call: number_of(s),
         is_refusal: until(s, 0, b'!') < s.len(),
         is_real: is_real(s),
         number: decimal(bare(s)),
@@ -76,6 +90,36 @@ pub fn plain(line: &[u8], k: usize) -> Field
     let mut value = [0u64; 0];
     let mut unknown = [0u64; 0];
     field(line, k, &mut value, &mut unknown)
+}
+
+// Whether planes hold the words of field k of a line, which are written to v and u.
+fn hold_field(
+    line: &[u8],
+    k: usize,
+    value: &[u64],
+    unknown: &[u64],
+    v: &mut [u64],
+    u: &mut [u64],
+) -> bool
+    ensures { λ r. ⌜ r ≡ (holdsFrom 0 (now (value .entry)) (now (v .exit)) && holdsFrom 0 (now (unknown .entry)) (now (u .exit))) ⌝ }
+{
+    field(line, k, v, u);
+    if holds(value, v) {
+        holds(unknown, u)
+    } else {
+        false
+    }
+}
+
+// Whether planes hold what the answer of a line leaves there: its bits or, where it is a refusal, those of field `out`.
+pub fn are_left(line: &[u8], out: usize, value: &[u64], unknown: &[u64]) -> bool
+    ensures { λ r. ⌜ TellsHeld r (now (value .entry)) (now (unknown .entry)) ⌝ }
+{
+    let f = plain(line, 0);
+    let k = if f.is_refusal { out } else { 0 };
+    let mut v = [0u64; 65];
+    let mut u = [0u64; 65];
+    hold_field(line, k, value, unknown, &mut v, &mut u)
 }
 
 // Writes a line if it differs, and else if it is to be shown; gives on whether it agrees.

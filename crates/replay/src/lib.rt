@@ -20,10 +20,13 @@
 // OUT is what the planes lent for a result hold before the call. A call that writes and answers no vector is answered by the bits that it
 // leaves, where leading zeros may be left out; CHANGED is 1 or 0. Where a call is refused, the answer is `!` and the number of the refusal,
 // and the planes lent for writing hold what they held.
+use coded::BitResult;
+use coded::HeaderResult;
 use value::Header;
 use words::Word;
 ghost use mathlib.Core.Path.{_≡_};
 ghost use lib.ListN.{getD};
+ghost use Rattle.replay.specs.Answers.{answered, sameCode, sameHeader};
 ghost use Rattle.replay.specs.Holds.{holdsFrom};
 
 pub mod inner;
@@ -31,8 +34,6 @@ mod text;
 
 // A field of a line, read in each way that its text can be meant.
 pub struct Field {
-    // The number of the call of that name, by its place in `text::number_of`.
-    pub call: usize,
     pub is_refusal: bool,
     pub is_real: bool,
     // The number, or that of the refusal.
@@ -44,6 +45,57 @@ pub struct Field {
     // How many words of each lent plane the vector takes.
     pub value: usize,
     pub unknown: usize,
+}
+
+// Whether a line's answer is that of a call: the number of its refusal, or no refusal and what else was compared.
+pub fn answers(f: Field, refusal: u8, same: bool) -> bool
+    ensures { λ r. ⌜ r ≡ answered f refusal same ⌝ }
+{
+    if refusal == 0 {
+        return if f.is_refusal { false } else { same };
+    }
+    if f.is_refusal {
+        f.number == refusal as u64
+    } else {
+        false
+    }
+}
+
+fn same_code(w: Word, code: u8) -> bool
+    ensures { λ r. ⌜ r ≡ sameCode w code ⌝ }
+{
+    if w.value == code as u64 % 2 {
+        w.unknown == code as u64 / 2
+    } else {
+        false
+    }
+}
+
+// Whether a line's answer is the bit that a call gave.
+pub fn is_bit(f: Field, r: BitResult) -> bool
+    ensures { λ is. ⌜ is ≡ answered f (r .refusal) (sameCode (f .word) (r .bit)) ⌝ }
+{
+    answers(f, r.refusal, same_code(f.word, r.bit))
+}
+
+fn same_header(h: Header, r: HeaderResult) -> bool
+    ensures { λ same. ⌜ same ≡ sameHeader h r ⌝ }
+{
+    if h.width != r.width {
+        return false;
+    }
+    if h.is_signed == r.is_signed {
+        h.is_fill == r.is_fill
+    } else {
+        false
+    }
+}
+
+// Whether a line's answer is a vector with the header that a call gave.
+pub fn is_vector(f: Field, r: HeaderResult) -> bool
+    ensures { λ is. ⌜ is ≡ answered f (r .refusal) (sameHeader (f .header) r) ⌝ }
+{
+    answers(f, r.refusal, same_header(f.header, r))
 }
 
 fn word_at(words: &[u64], k: usize) -> u64

@@ -45,7 +45,9 @@ pub(crate) fn part(s: &[u8], k: usize, byte: u8) -> &[u8] {
 }
 
 // The number of a call: the place of its name here, or the count of names.
-pub(crate) fn number_of(name: &[u8]) -> usize {
+pub(crate) fn number_of(name: &[u8]) -> usize
+    ensures { λ r. ⌜ r ≤ 26 ⌝ }
+{
     let names =
         b"get extract64 set splice64 splice_bits64 mask_top new zero from_u64 from_real_wrapped reduce_and reduce_or reduce_xor is_nonzero logic_and logic_or is_equal case_eq casez_eq casex_eq wildcard_eq bitwise_and bitwise_or bitwise_xor merge_unknown bitwise_not";
     let mut k = 0;
@@ -156,6 +158,12 @@ pub(crate) struct Extent {
     pub(crate) header: Header,
     pub(crate) value: usize,
     pub(crate) unknown: usize,
+}
+
+// Whether planes of n words have as many as field k of a line asks for.
+pub(crate) fn fits(line: &[u8], k: usize, n: usize) -> bool {
+    let e = extent_of(part(line, k, b' '));
+    e.value <= n && e.unknown <= n
 }
 
 fn marked(s: &[u8], width: u64, value: usize, unknown: usize) -> Extent {

@@ -5,9 +5,11 @@ use ffi::vectors::vowherunga_bitwise_not;
 use ffi::vectors::vowherunga_bitwise_or;
 use ffi::vectors::vowherunga_bitwise_xor;
 use ffi::vectors::vowherunga_merge_unknown;
-use replay::holds;
+use replay::inner::are_left;
+use replay::inner::call_of;
 use replay::inner::field;
 use replay::inner::plain;
+use replay::is_vector;
 use value::Header;
 
 // A vector of two operands, or of the first.
@@ -31,27 +33,6 @@ fn result(
     }
 }
 
-// Whether the planes hold the bits of field k of a line.
-fn are_bits(line: &[u8], k: usize, value: &[u64], unknown: &[u64]) -> bool {
-    let mut v = [0u64; 65];
-    let mut u = [0u64; 65];
-    field(line, k, &mut v, &mut u);
-    holds(value, &v) && holds(unknown, &u)
-}
-
-// Whether a call gave the answer of its line and left the planes as that says; field `out` is what a refused call must leave.
-fn is_answer(line: &[u8], r: HeaderResult, out: usize, value: &[u64], unknown: &[u64]) -> bool {
-    let f = plain(line, 0);
-    if r.refusal != 0 {
-        return f.is_refusal && f.number == r.refusal as u64 && are_bits(line, out, value, unknown);
-    }
-    let h = f.header;
-    if h.width != r.width || h.is_signed != r.is_signed || h.is_fill != r.is_fill {
-        return false;
-    }
-    !f.is_refusal && are_bits(line, 0, value, unknown)
-}
-
 // The operators whose operands are lent; the last field is what the planes lent for the result hold before the call.
 fn on_operands(
     call: usize,
@@ -72,7 +53,7 @@ fn on_operands(
     let ov = &mut value[0..m];
     let ou = &mut unknown[0..n];
     let r = result(call, a, av, au, b, bv, bu, ov, ou);
-    is_answer(line, r, k, ov, ou)
+    is_vector(plain(line, 0), r) && are_left(line, k, ov, ou)
 }
 
 // The operators whose left operand is lent.
@@ -88,8 +69,7 @@ fn on_left(call: usize, line: &[u8], a: Header, av: &[u64], au: &[u64]) -> bool 
 
 // Whether the call of a line has the line's answer.
 pub(crate) fn agrees(line: &[u8]) -> bool {
-    let name = plain(line, 2);
-    let call = name.call;
+    let call = call_of(line);
     if call < 21 {
         return false;
     }

@@ -92,17 +92,18 @@ fn real_line(rng: &mut Rng, width: u32) -> String {
     made_line(rng, "from_real_wrapped", width, made, &format!(" {q}"))
 }
 
-pub fn lines(rng: &mut Rng, table: &mut Vec<String>) {
+/// The calls on bits and words go to one table, those that make a vector to another.
+pub fn lines(rng: &mut Rng, bits: &mut Vec<String>, made: &mut Vec<String>) {
     for width in widths(rng) {
-        planes_lines(rng, width, table);
+        planes_lines(rng, width, bits);
     }
     for width in [0, 1, 2, 3, 62, 63, 64, 65, 66, 127, 128, 129, 193] {
-        constructor_lines(rng, width, table);
+        constructor_lines(rng, width, made);
     }
     for width in widths(rng) {
-        table.push(insert_line(rng, width));
+        bits.push(insert_line(rng, width));
     }
     for width in widths(rng) {
-        table.push(real_line(rng, width));
+        made.push(real_line(rng, width));
     }
 }

@@ -1,4 +1,4 @@
-//! The tables of the reference's answers that three programs replay without Rust; their lines are told in crates/replay/src/lib.rt.
+//! The tables of the reference's answers that four programs replay without Rust; their lines are told in crates/replay/src/lib.rt.
 mod bits;
 mod operators;
 mod text;
@@ -29,14 +29,14 @@ fn stood(rng: &mut Rng, result: &Vector) -> Vector {
 }
 
 /// The programs that replay a table each.
-pub const PROGRAMS: [&str; 3] = ["bit_cases", "vector_cases", "answer_cases"];
+pub const PROGRAMS: [&str; 4] = ["bit_cases", "constructor_cases", "vector_cases", "answer_cases"];
 
 /// The table of each program: fewer than 65,536 bytes, which is what a program reads.
-pub fn tables() -> [String; 3] {
+pub fn tables() -> [String; 4] {
     let mut rng = Rng::new(0x616e_7377_6572);
-    [bits::lines, operators::vector_lines, operators::bit_lines].map(|draw| {
-        let mut lines = Vec::new();
-        draw(&mut rng, &mut lines);
-        lines.iter().map(|line| format!("{line}\n")).collect()
-    })
+    let [mut bits, mut made, mut vectors, mut answers] = [const { Vec::new() }; 4];
+    bits::lines(&mut rng, &mut bits, &mut made);
+    operators::vector_lines(&mut rng, &mut vectors);
+    operators::bit_lines(&mut rng, &mut answers);
+    [bits, made, vectors, answers].map(|lines| lines.iter().map(|line| format!("{line}\n")).collect())
 }

@@ -1,0 +1,19 @@
+-- When the answer of a line is what a call gave.
+use Prim.Native.Nat.{ℕ, _/_, _%_}
+use mathlib.Core.Bool.{Bool, false, Bool·beq, cond, _&&_}
+use lib.Dec.{eqb}
+use Rattle.words.specs.declared.Word.{Word}
+use Rattle.value.specs.declared.Header.{Header}
+use Rattle.coded.specs.declared.HeaderResult.{HeaderResult}
+use Rattle.replay.specs.declared.Field.{Field}
+
+-- a refusal by its number; where there is none, 0, no refusal and what else was compared
+abbrev pub answered : Field → ℕ → Bool → Bool
+answered f refusal same = cond (eqb refusal 0) (cond (f .«is_refusal») false same) (cond (f .«is_refusal») (eqb (f .number) refusal) false)
+
+-- a bit by the two digits of its code
+abbrev pub sameCode : Word → ℕ → Bool
+sameCode w code = eqb (w .value) (code % 2) && eqb (w .unknown) (code / 2)
+
+abbrev pub sameHeader : Header → HeaderResult → Bool
+sameHeader h r = eqb (h .width) (r .width) && (Bool·beq (h .«is_signed») (r .«is_signed») && Bool·beq (h .«is_fill») (r .«is_fill»))
