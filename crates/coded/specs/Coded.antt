@@ -12,8 +12,8 @@ use Rattle.words.specs.Planes.{Planes}
 use Rattle.value.specs.declared.Header.{Header}
 use Rattle.value.specs.declared.Operand.{Operand}
 use Rattle.value.specs.declared.Operand.the-variants as operand
-use Rattle.reduce.specs.declared.Truth.{Truth}
-use Rattle.reduce.specs.Reduce.{truthBit}
+use Rattle.fold.specs.declared.Truth.{Truth}
+use Rattle.fold.specs.Fold.{truthBit}
 use Rattle.coded.specs.declared.BitResult.{BitResult}
 use Rattle.coded.specs.declared.WordResult.{WordResult}
 use Rattle.coded.specs.declared.HeaderResult.{HeaderResult}

@@ -124,7 +124,7 @@ pub fn truth_result(a: TruthAnswer) -> BitResult
     match a {
         TruthAnswer::Truth(t) => BitResult {
             refusal: 0,
-            bit: bit::to_code(reduce::truth_bit(t)),
+            bit: bit::to_code(fold::truth_bit(t)),
         },
         TruthAnswer::Refused(r) => BitResult {
             refusal: refusal::number(r),

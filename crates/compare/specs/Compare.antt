@@ -10,7 +10,7 @@ use Rattle.value.specs.declared.Operand.{Operand}
 use Rattle.value.specs.declared.Operand.the-variants as operand
 use Rattle.value.specs.Checks.{vector, checkPair, checkOperand}
 use Rattle.real.specs.Real.{realOf}
-use Rattle.reduce.specs.Reduce.{knownBit}
+use Rattle.fold.specs.Fold.{knownBit}
 use Rattle.scan.specs.declared.Comparison.{Comparison}
 use Rattle.scan.specs.declared.Comparison.the-variants.{Equal}
 use Rattle.scan.specs.Compared.{compared}

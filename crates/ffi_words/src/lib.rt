@@ -9,7 +9,7 @@ ghost use Rattle.bit.specs.Rules.{code};
 ghost use Rattle.words.specs.Planes.{vectorOf, planesOf};
 ghost use Rattle.lanes.specs.declared.Bitwise.the-variants.{And, Or, Xor, Merge};
 ghost use Rattle.join.specs.Joined.{joined, inverted};
-ghost use Rattle.reduce.specs.Reduce.{reduceAnd, reduceOr, reduceXor, truthOf, truthBit};
+ghost use Rattle.fold.specs.Fold.{reduceAnd, reduceOr, reduceXor, truthOf, truthBit};
 ghost use Rattle.scan.specs.declared.Comparison.the-variants.{Equal, CaseEqual, CasezEqual, CasexEqual, WildcardEqual};
 ghost use Rattle.scan.specs.Compared.{compared};
 ghost use Rattle.narrow.specs.Narrow.{single, plain64};
@@ -83,7 +83,7 @@ pub extern "C" fn vowherunga_reduce_xor_word(a: Word) -> u8
 pub extern "C" fn vowherunga_truth_word(a: Word) -> u8
     ensures { λ r. ⌜ r ≡ code (truthBit (truthOf (vectorOf 64 (single a)))) ⌝ }
 {
-    bit::to_code(reduce::truth_bit(narrow::truth(a)))
+    bit::to_code(fold::truth_bit(narrow::truth(a)))
 }
 
 // `narrow::compare` by `is_equal`

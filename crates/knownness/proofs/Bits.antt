@@ -11,7 +11,7 @@ use Rattle.bit.specs.declared.LogicBit.{LogicBit}
 use Rattle.bit.specs.declared.LogicBit.the-variants.{Zero, One, X, Z}
 use Rattle.bit.specs.Rules.{same, known, andBit, orBit, xorBit, mergeBit, notBit}
 use Rattle.bit.proofs.Table.{all, each, and-left, and-right}
-use Rattle.reduce.proofs.Folds.{same-eq}
+use Rattle.fold.proofs.Folds.{same-eq}
 use Rattle.knownness.specs.Knownness.{Known, Keeps, Refines, Completes}
 
 -- ---- the relations

@@ -19,7 +19,7 @@ use Rattle.value.specs.Checks.{Vector}
 use Rattle.extension.specs.declared.Operator.{Operator}
 use Rattle.extension.specs.declared.Operator.the-variants as operator
 use Rattle.extension.specs.Extension.{larger, extension, operandAt, stretches}
-use Rattle.reduce.proofs.Folds.{and-fold}
+use Rattle.fold.proofs.Folds.{and-fold}
 use Rattle.scan.specs.declared.Comparison.the-variants as comparison
 use Rattle.scan.specs.Compared.{compared}
 use Rattle.scan.proofs.Places.{compared-and}

@@ -27,9 +27,9 @@ use Rattle.lanes.specs.Lanes.{opBit}
 use Rattle.extension.specs.declared.Operator.the-variants as operator-of
 use Rattle.extension.specs.Extension.{larger, operandAt}
 use Rattle.join.specs.Joined.{operator}
-use Rattle.reduce.specs.declared.Truth.{Truth}
-use Rattle.reduce.specs.declared.Truth.the-variants as truth
-use Rattle.reduce.specs.Reduce.{reduceAnd, reduceOr, reduceXor, truthOf, truthBit}
+use Rattle.fold.specs.declared.Truth.{Truth}
+use Rattle.fold.specs.declared.Truth.the-variants as truth
+use Rattle.fold.specs.Fold.{reduceAnd, reduceOr, reduceXor, truthOf, truthBit}
 use Rattle.scan.specs.declared.Comparison.the-variants as comparison
 use Rattle.scan.specs.Compared.{compared}
 use Rattle.ops.specs.declared.Op.{Op}

@@ -25,11 +25,11 @@ use Rattle.words.proofs.Planes as planes
 use Rattle.words.proofs.Planes.{length-tabulate}
 use Rattle.words.proofs.Lanes.{Lane, word, gives, lane}
 use Rattle.words.proofs.Lanes.Lane.{av, au, neg, and, or}
-use Rattle.reduce.specs.declared.Truth.the-variants.{False, True, Unknown}
-use Rattle.reduce.specs.Reduce.{any, count, unknown, reduceAnd, reduceOr, reduceXor, truthOf}
-use Rattle.reduce.proofs.Gather.{gather, gather-cong, of-list}
-use Rattle.reduce.proofs.Places.{some, nonzero, WordPlanes}
-use Rattle.reduce.proofs.Parity as parity
+use Rattle.fold.specs.declared.Truth.the-variants.{False, True, Unknown}
+use Rattle.fold.specs.Fold.{any, count, unknown, reduceAnd, reduceOr, reduceXor, truthOf}
+use Rattle.fold.proofs.Gather.{gather, gather-cong, of-list}
+use Rattle.fold.proofs.Places.{some, nonzero, WordPlanes}
+use Rattle.fold.proofs.Parity as parity
 use Rattle.narrow.specs.Narrow.{single}
 use Rattle.narrow.proofs.Singles.{whole, at-most, placeOf, place}
 

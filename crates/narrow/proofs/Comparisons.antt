@@ -19,9 +19,9 @@ use Rattle.words.proofs.Planes.{getD-tabulate, getD-tabulate-out, length-tabula
 use Rattle.value.specs.declared.Header.{Header}
 use Rattle.value.specs.Checks.{vector}
 use Rattle.value.specs.Constructors.{plain}
-use Rattle.reduce.specs.Reduce.{any}
-use Rattle.reduce.proofs.Gather.{gather-cong}
-use Rattle.reduce.proofs.Places.{any-some}
+use Rattle.fold.specs.Fold.{any}
+use Rattle.fold.proofs.Gather.{gather-cong}
+use Rattle.fold.proofs.Places.{any-some}
 use Rattle.extension.specs.Extension.{extendsByTop, stretched, signedFor, signExtended, top, operandAt}
 use Rattle.scan.specs.declared.Comparison.{Comparison}
 use Rattle.scan.specs.Compared.{operator, mismatch, unsure, onPair, decided, places, compared, wordPlaces}

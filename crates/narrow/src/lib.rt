@@ -1,8 +1,8 @@
 // Word forms of the operators, for vectors of at most 64 bits: a word of each plane in, a word pair or an answer out. Nothing is asked of the
 // words; bits at or above a width are not seen.
 use bit::LogicBit;
+use fold::Truth;
 use lanes::Bitwise;
-use reduce::Truth;
 use scan::Comparison;
 use words::Word;
 use words::inner::least;
@@ -10,7 +10,7 @@ use words::inner::ones;
 ghost use mathlib.Core.Path.{_≡_};
 ghost use Prim.Native.Nat.{min};
 ghost use Rattle.words.specs.Planes.{vectorOf, planesOf};
-ghost use Rattle.reduce.specs.Reduce.{reduceAnd, reduceOr, reduceXor, truthOf};
+ghost use Rattle.fold.specs.Fold.{reduceAnd, reduceOr, reduceXor, truthOf};
 ghost use Rattle.join.specs.Joined.{joined, inverted};
 ghost use Rattle.scan.specs.Compared.{compared};
 ghost use Rattle.narrow.specs.Narrow.{single, plain64};
@@ -65,7 +65,7 @@ pub fn truth(a: Word) -> Truth
 pub fn reduce_or(a: Word) -> LogicBit
     ensures { λ r. ⌜ r ≡ reduceOr (vectorOf 64 (single a)) ⌝ }
 {
-    reduce::truth_bit(truth(a))
+    fold::truth_bit(truth(a))
 }
 
 // x on any unknown bit, else whether the number of ones is odd.

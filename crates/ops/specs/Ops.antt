@@ -15,9 +15,9 @@ use Rattle.value.specs.Constructors.{plain}
 use Rattle.lanes.specs.declared.Bitwise.the-variants as bitwise
 use Rattle.join.specs.Joined.{joined, inverted}
 use Rattle.bitwise.specs.Bitwise.{resultHeader, notHeader}
-use Rattle.reduce.specs.declared.Truth.{Truth}
-use Rattle.reduce.specs.declared.Truth.the-variants as truth
-use Rattle.reduce.specs.Reduce.{reduceAnd, reduceOr, reduceXor, truthOf, truthBit}
+use Rattle.fold.specs.declared.Truth.{Truth}
+use Rattle.fold.specs.declared.Truth.the-variants as truth
+use Rattle.fold.specs.Fold.{reduceAnd, reduceOr, reduceXor, truthOf, truthBit}
 use Rattle.scan.specs.declared.Comparison.the-variants as comparison
 use Rattle.scan.specs.Compared.{compared}
 use Rattle.ops.specs.declared.Op.{Op}

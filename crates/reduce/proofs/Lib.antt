@@ -1,6 +1,1 @@
-pub mod Gather
-pub mod Places
-pub mod Scan
-pub mod Known
-pub mod Parity
-pub mod Folds
+pub mod Truths

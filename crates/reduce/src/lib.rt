@@ -1,5 +1,10 @@
 // Answers of one bit from one vector: the reductions, truth, and the logical operators on truths.
-use bit::LogicBit;
+use fold::Truth;
+use fold::inner::and_bits;
+use fold::inner::or_bits;
+use fold::inner::truth;
+use fold::inner::xor_bits;
+use fold::truth_bit;
 use planes::BitAnswer;
 use refusal::Refusal;
 use refusal::Verdict;
@@ -11,31 +16,12 @@ ghost use Rattle.bit.specs.Rules.{andBit, orBit};
 ghost use Rattle.words.specs.Planes.{lent};
 ghost use Rattle.planes.specs.Entries.{bitAnswer};
 ghost use Rattle.value.specs.declared.Operand.the-variants.{Vector, Real};
-ghost use Rattle.reduce.specs.Reduce.{reduceAnd, reduceOr, reduceXor, reduction, truthBit, truthAnswer, isNonzero, combined, logicAnd, logicOr};
-
-pub mod inner;
-
-// Whether an operand counts as true; unknown where its unknown bits decide.
-pub enum Truth {
-    False,
-    True,
-    Unknown,
-}
+ghost use Rattle.fold.specs.Fold.{reduceAnd, reduceOr, reduceXor};
+ghost use Rattle.reduce.specs.Reduce.{reduction, truthAnswer, isNonzero, combined, logicAnd, logicOr};
 
 pub enum TruthAnswer {
     Truth(Truth),
     Refused(Refusal),
-}
-
-// A truth as a bit: 0, 1, or x where it is unknown.
-pub fn truth_bit(t: Truth) -> LogicBit
-    ensures { λ r. ⌜ r ≡ truthBit t ⌝ }
-{
-    match t {
-        Truth::False => LogicBit::Zero,
-        Truth::True => LogicBit::One,
-        Truth::Unknown => LogicBit::X,
-    }
 }
 
 // 0 on any known 0, else x on any unknown bit, else 1.
@@ -45,7 +31,7 @@ pub fn reduce_and(h: Header, value: &[u64], unknown: &[u64]) -> BitAnswer
     let width = h.width;
     match value::check_vector(h, value, unknown) {
         Verdict::Refused(r) => BitAnswer::Refused(r),
-        Verdict::Accepted => BitAnswer::Bit(inner::and_bits(width, value, unknown)),
+        Verdict::Accepted => BitAnswer::Bit(and_bits(width, value, unknown)),
     }
 }
 
@@ -56,7 +42,7 @@ pub fn reduce_or(h: Header, value: &[u64], unknown: &[u64]) -> BitAnswer
     let width = h.width;
     match value::check_vector(h, value, unknown) {
         Verdict::Refused(r) => BitAnswer::Refused(r),
-        Verdict::Accepted => BitAnswer::Bit(inner::or_bits(width, value, unknown)),
+        Verdict::Accepted => BitAnswer::Bit(or_bits(width, value, unknown)),
     }
 }
 
@@ -67,7 +53,7 @@ pub fn reduce_xor(h: Header, value: &[u64], unknown: &[u64]) -> BitAnswer
     let width = h.width;
     match value::check_vector(h, value, unknown) {
         Verdict::Refused(r) => BitAnswer::Refused(r),
-        Verdict::Accepted => BitAnswer::Bit(inner::xor_bits(width, value, unknown)),
+        Verdict::Accepted => BitAnswer::Bit(xor_bits(width, value, unknown)),
     }
 }
 
@@ -78,7 +64,7 @@ fn vector_truth(h: Header, value: &[u64], unknown: &[u64]) -> TruthAnswer
     let width = h.width;
     match value::check_vector(h, value, unknown) {
         Verdict::Refused(r) => TruthAnswer::Refused(r),
-        Verdict::Accepted => TruthAnswer::Truth(inner::truth(width, value, unknown)),
+        Verdict::Accepted => TruthAnswer::Truth(truth(width, value, unknown)),
     }
 }
 

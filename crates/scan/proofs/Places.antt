@@ -18,10 +18,10 @@ use Rattle.words.specs.Vector.{tabulate}
 use Rattle.words.specs.Planes.{Planes, lent}
 use Rattle.value.specs.declared.Header.{Header}
 use Rattle.value.specs.Checks.{Vector, vector}
-use Rattle.reduce.specs.Reduce.{any, unknown, reduceAnd}
-use Rattle.reduce.proofs.Gather.{gather-cong}
-use Rattle.reduce.proofs.Places.{any-tabulate}
-use Rattle.reduce.proofs.Scan.{Scanned, none-left, open-told}
+use Rattle.fold.specs.Fold.{any, unknown, reduceAnd}
+use Rattle.fold.proofs.Gather.{gather-cong}
+use Rattle.fold.proofs.Places.{any-tabulate}
+use Rattle.fold.proofs.Scan.{Scanned, none-left, open-told}
 use Rattle.extension.specs.declared.Extent.{Extent}
 use Rattle.extension.specs.declared.Operator.{Operator}
 use Rattle.extension.specs.Extension.{larger, operandAt, extentOf}

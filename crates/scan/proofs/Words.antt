@@ -25,10 +25,10 @@ use Rattle.words.proofs.Digits.{pack-bit, pack-lt, pack-ext, bit-of-zero}
 use Rattle.words.proofs.Planes.{getD-tabulate, getD-tabulate-out, length-tabulate}
 use Rattle.words.proofs.Lanes.{Lane, word, gives, lane}
 use Rattle.words.proofs.Extend.{wordBy, cut}
-use Rattle.reduce.specs.Reduce.{any}
-use Rattle.reduce.proofs.Gather.{gather-cong}
-use Rattle.reduce.proofs.Places.{some, any-some, nonzero, inside}
-use Rattle.reduce.proofs.Scan.{start, more, found}
+use Rattle.fold.specs.Fold.{any}
+use Rattle.fold.proofs.Gather.{gather-cong}
+use Rattle.fold.proofs.Places.{some, any-some, nonzero, inside}
+use Rattle.fold.proofs.Scan.{start, more, found}
 use Rattle.extension.specs.declared.Extent.{Extent}
 use Rattle.scan.specs.declared.Comparison.{Comparison}
 use Rattle.scan.specs.declared.inner.Marks.{Marks}

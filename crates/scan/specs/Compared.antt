@@ -11,7 +11,7 @@ use Rattle.words.specs.declared.Word.{Word}
 use Rattle.words.specs.Vector.{tabulate, pack}
 use Rattle.words.specs.Planes.{Planes, fromPlanes, bitOf}
 use Rattle.value.specs.Checks.{Vector}
-use Rattle.reduce.specs.Reduce.{any}
+use Rattle.fold.specs.Fold.{any}
 use Rattle.extension.specs.declared.Extent.{Extent}
 use Rattle.extension.specs.declared.Operator.{Operator}
 use Rattle.extension.specs.declared.Operator.the-variants as operator-of

@@ -9,7 +9,7 @@ use Rattle.bit.specs.Rules.{ofCode, same}
 use Rattle.value.specs.Checks.{Vector}
 use Rattle.lanes.specs.declared.Bitwise.the-variants.{And, Or, Xor, Merge}
 use Rattle.join.specs.Joined.{joined, inverted}
-use Rattle.reduce.specs.Reduce.{reduceAnd, reduceOr, reduceXor}
+use Rattle.fold.specs.Fold.{reduceAnd, reduceOr, reduceXor}
 use Rattle.scan.specs.declared.Comparison.the-variants.{Equal, CaseEqual, CasezEqual, WildcardEqual}
 use Rattle.scan.specs.Compared.{compared}
 

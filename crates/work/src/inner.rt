@@ -1,16 +1,13 @@
 // The ops worked out, into planes lent for the result. These ask their caller for accepted operands and for planes of the result's word count.
 use bit::LogicBit;
+use fold::Truth;
+use fold::inner::and_bits;
+use fold::inner::or_bits;
+use fold::inner::truth;
+use fold::inner::xor_bits;
 use join::inner::join_planes;
 use join::inner::not_planes;
 use lanes::Bitwise;
-use ops::Kind;
-use ops::Op;
-use ops::Question;
-use reduce::Truth;
-use reduce::inner::and_bits;
-use reduce::inner::or_bits;
-use reduce::inner::truth;
-use reduce::inner::xor_bits;
 use value::Header;
 use words::inner::operand_word;
 ghost use mathlib.Core.Path.{_≡_};
@@ -19,8 +16,8 @@ ghost use mathlib.Core.List.{[], _∷_};
 ghost use lib.ListN.{length};
 ghost use Rattle.words.specs.Planes.{wordCount, lent, planesOf, Plane};
 ghost use Rattle.value.specs.Checks.{vector};
-ghost use Rattle.reduce.specs.Reduce.{truthOf};
+ghost use Rattle.fold.specs.Fold.{truthOf};
 ghost use Rattle.ops.specs.Ops.{armsRefused, opHeader, vectorTruth, answerBit, selected, inserted, opBits};
 
 // Copies the words of a plane into another of the same length.
 fn copy_words(from: &[u64], to: &mut [u64])
@@ -59,7 +56,7 @@ fn vector_truth(a: Header, av: &[u64], au: &[u64]) -> LogicBit
     ensures { λ r. ⌜ r ≡ vectorTruth (vector a (lent (now (av .entry)) (now (au .entry)))) ⌝ }
 {
     let width = a.width;
-    reduce::truth_bit(truth(width, av, au))
+    fold::truth_bit(truth(width, av, au))
 }
 
 // The bit that is the answer.

@@ -6,7 +6,7 @@ use Rattle.bit.specs.Rules.{andBit, orBit}
 use Rattle.refusal.specs.Outcome.Answer.{given}
 use Rattle.words.specs.Planes.{lent}
 use Rattle.reduce.specs.Reduce.{truthAnswer, combined}
-use Rattle.reduce.proofs.Folds.{by-truths}
+use Rattle.reduce.proofs.Truths.{by-truths}
 use borrow.Author.Needs.{needs}
 use Rattle.reduce.proofs.combine.Statement.{statement}
 use Rattle.reduce.proofs.combine.Tie as tie

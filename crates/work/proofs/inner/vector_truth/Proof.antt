@@ -1,6 +1,6 @@
 -- `work::inner::vector_truth`: the truth, then its bit.
 use mathlib.Core.Path.{ap, _∙_}
-use Rattle.reduce.specs.Reduce.{truthBit}
+use Rattle.fold.specs.Fold.{truthBit}
 use borrow.Author.Needs.{needs}
 use Rattle.work.proofs.inner.vector_truth.Statement.{statement}
 use Rattle.work.proofs.inner.vector_truth.Tie as tie

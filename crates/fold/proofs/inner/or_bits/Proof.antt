@@ -1,10 +1,10 @@
 use Rattle.words.specs.Planes.{fromPlanes}
 use mathlib.Core.Path.{_∙_, ap}
-use Rattle.reduce.specs.Reduce.{truthBit}
-use Rattle.reduce.proofs.Folds.{truth-or}
+use Rattle.fold.specs.Fold.{truthBit}
+use Rattle.fold.proofs.Folds.{truth-or}
 use borrow.Author.Needs.{needs}
-use Rattle.reduce.proofs.inner.or_bits.Statement.{statement}
-use Rattle.reduce.proofs.inner.or_bits.Tie as tie
+use Rattle.fold.proofs.inner.or_bits.Statement.{statement}
+use Rattle.fold.proofs.inner.or_bits.Tie as tie
 
 truth-requires : tie.Need-truth-requires
 truth-requires c κs = search needs

@@ -1,4 +1,4 @@
--- `reduce::inner::xor_bits`: no word before k has an unknown bit, and `sum` has as many ones as they, up to an even number.
+-- `fold::inner::xor_bits`: no word before k has an unknown bit, and `sum` has as many ones as they, up to an even number.
 use Prim.Native.Nat.{_-_, _^_, _≤_, _<_}
 use native.Mathlib.Omega.{arith}
 use borrow.Author.Needs.{needs}
@@ -7,10 +7,10 @@ use mathlib.Core.Bool.{true, false}
 use lib.ListN.{length}
 use lib.Bits.{xor-lt}
 use lib.Pow.{pow-pos}
-use Rattle.reduce.proofs.Places.{WordPlanes}
-use Rattle.reduce.proofs.Parity.{Summed, begin, another, unknown-found, parity}
-use Rattle.reduce.proofs.inner.xor_bits.Statement.{statement}
-use Rattle.reduce.proofs.inner.xor_bits.Tie as tie
+use Rattle.fold.proofs.Places.{WordPlanes}
+use Rattle.fold.proofs.Parity.{Summed, begin, another, unknown-found, parity}
+use Rattle.fold.proofs.inner.xor_bits.Statement.{statement}
+use Rattle.fold.proofs.inner.xor_bits.Tie as tie
 
 abbrev Inv-loop : tie.InvT-loop
 Inv-loop width value unknown sum₀ k₀ sum k = (k ≤ length value) × (sum < 2 ^ 64) × Summed width value unknown sum k

@@ -3,8 +3,7 @@
 --     same-eq       bits of the same code are the same
 --     truth-or      truth as a bit is the or-reduction
 --     holds-and     whether a known 0 stands in a vector, denied, is the and-reduction
---     by-truths     two truths or refusals, combined
-use mathlib.Core.Path.{_≡_, refl, sym, ap, ap₂, _∙_}
+use mathlib.Core.Path.{_≡_, refl, sym, ap, _∙_}
 use mathlib.Core.Bool.{Bool, true, false, not, _&&_, _||_, cond}
 use mathlib.Core.List.{List, [], _∷_, foldr}
 use Prim.Native.Nat.{ℕ, _+_, _%_}
@@ -16,14 +15,8 @@ use Rattle.bit.specs.declared.LogicBit.{LogicBit}
 use Rattle.bit.specs.declared.LogicBit.the-variants.{Zero, One, X, Z}
 use Rattle.bit.specs.Rules.{code, ofCode, same, andBit, orBit, xorBit, notBit}
 use Rattle.bit.proofs.Table.{all, each, and-left, and-right, of-code}
-use Rattle.reduce.specs.declared.Truth.{Truth}
-use Rattle.reduce.specs.declared.Truth.the-variants.{False, True, Unknown}
-use Rattle.refusal.specs.Outcome.{Answer, after}
-use Rattle.refusal.specs.Outcome.Answer.{given, refused}
-use Rattle.words.specs.Planes.{Planes}
-use Rattle.value.specs.declared.Operand.{Operand}
-use Rattle.value.specs.Checks.{checkOperand}
-use Rattle.reduce.specs.Reduce.{any, count, unknown, reduceAnd, reduceOr, reduceXor, holds, truthOf, truthBit, operandTruth, isNonzero, combined}
+use Rattle.fold.specs.declared.Truth.the-variants.{False, True, Unknown}
+use Rattle.fold.specs.Fold.{any, count, unknown, reduceAnd, reduceOr, reduceXor, holds, truthOf, truthBit}
 
 -- ---- and, or
 
@@ -110,21 +103,3 @@ holds-and bs = go (any (same Zero) bs) (any unknown bs)
     go true x = refl
     go false true = refl
     go false false = refl
-
--- what follows from a truth, or its refusal
-abbrev onward : Answer Truth → (Truth → Answer LogicBit) → Answer LogicBit
-onward (given t) f = f t
-onward (refused n) f = refused n
-
-module _ (f : LogicBit → LogicBit → LogicBit) (a : Operand) (p : Planes) (b : Operand) (q : Planes) where
-  abbrev both-truths : Answer Truth → Answer Truth → Answer LogicBit
-  both-truths s t = onward s (λ x. onward t (λ y. given (f (truthBit x) (truthBit y))))
-
-  pub by-truths : (s t : Answer Truth) → s ≡ isNonzero a p → t ≡ isNonzero b q → both-truths s t ≡ combined f a p b q
-  by-truths s t i j = ap₂ both-truths i j ∙ go (checkOperand a p) (checkOperand b q)
-    where
-      go : (c d : Answer Unit) → both-truths (after c (given (operandTruth a p))) (after d (given (operandTruth b q)))
-          ≡ after c (after d (given (f (truthBit (operandTruth a p)) (truthBit (operandTruth b q)))))
-      go (given _) (given _) = refl
-      go (given _) (refused n) = refl
-      go (refused n) d = refl

@@ -20,8 +20,8 @@ use Rattle.words.specs.Vector.{at, bitAt, tabulate}
 use Rattle.words.specs.Planes.{stored, planeBit, fromPlanes, Plane}
 use Rattle.words.proofs.Digits.{bit-lt, lt-or-ge}
 use Rattle.words.proofs.Planes.{getD-tabulate, getD-tabulate-out, plane-bit}
-use Rattle.reduce.specs.Reduce.{any, unknown}
-use Rattle.reduce.proofs.Gather.{gather, gather-cong, gather-add, gather-word, of-list, of-digits}
+use Rattle.fold.specs.Fold.{any, unknown}
+use Rattle.fold.proofs.Gather.{gather, gather-cong, gather-add, gather-word, of-list, of-digits}
 
 -- one of the places below n passes
 abbrev pub some : ℕ → (ℕ → Bool) → Bool

@@ -1,4 +1,4 @@
--- `reduce::inner::holds`: no word before k has the bit looked for, and `seen` is not 0 where one of them has an unknown bit.
+-- `fold::inner::holds`: no word before k has the bit looked for, and `seen` is not 0 where one of them has an unknown bit.
 use Prim.Native.Nat.{_+_, _-_, _≤_}
 use native.Mathlib.Omega.{arith}
 use mathlib.Core.Path.{_≡_, sym, ap, _∙_}
@@ -8,11 +8,11 @@ use borrow.Author.Needs.{needs}
 use borrow.Author.Tests.{eq-eqb, ne-eqb}
 use lib.Bits.{bitOr}
 use lib.ListN.{length, getD}
-use Rattle.reduce.proofs.Places.{WordPlanes}
-use Rattle.reduce.proofs.Scan.{start}
-use Rattle.reduce.proofs.Known.{Scanned, whole, cut, more, found, done, flipOf}
-use Rattle.reduce.proofs.inner.holds.Statement.{statement}
-use Rattle.reduce.proofs.inner.holds.Tie as tie
+use Rattle.fold.proofs.Places.{WordPlanes}
+use Rattle.fold.proofs.Scan.{start}
+use Rattle.fold.proofs.Known.{Scanned, whole, cut, more, found, done, flipOf}
+use Rattle.fold.proofs.inner.holds.Statement.{statement}
+use Rattle.fold.proofs.inner.holds.Tie as tie
 
 abbrev Inv-loop : tie.InvT-loop
 Inv-loop width value unknown one flip last seen₀ k₀ seen k = (k ≤ last) × Scanned width value unknown one seen k

@@ -1,13 +1,13 @@
--- `reduce::inner::and_bits`: a known 0 denies; without one all bits are 1, up to unknown ones.
+-- `fold::inner::and_bits`: a known 0 denies; without one all bits are 1, up to unknown ones.
 use Rattle.words.specs.Planes.{fromPlanes}
-use Rattle.reduce.specs.declared.Truth.{Truth}
+use Rattle.fold.specs.declared.Truth.{Truth}
 use mathlib.Core.Path.{_≡_, sym, ap, _∙_}
 use Rattle.bit.specs.Rules.{notBit}
-use Rattle.reduce.specs.Reduce.{truthBit, reduceAnd}
-use Rattle.reduce.proofs.Folds.{holds-and}
+use Rattle.fold.specs.Fold.{truthBit, reduceAnd}
+use Rattle.fold.proofs.Folds.{holds-and}
 use borrow.Author.Needs.{needs}
-use Rattle.reduce.proofs.inner.and_bits.Statement.{statement}
-use Rattle.reduce.proofs.inner.and_bits.Tie as tie
+use Rattle.fold.proofs.inner.and_bits.Statement.{statement}
+use Rattle.fold.proofs.inner.and_bits.Tie as tie
 
 by-case : (c : tie.After-holds) (t : Truth) → c .holds .result ≡ t → let a = c .before .before .before .args in
     notBit (truthBit t) ≡ reduceAnd (fromPlanes (a .width) (a .value .now) (a .unknown .now))

@@ -1,18 +1,18 @@
-// The work behind the entries. These ask their caller for planes that were checked.
+// The reductions and truth by words. These ask their caller for planes that were checked.
 use crate::Truth;
 use bit::LogicBit;
 use words::inner::kept;
 use words::inner::ones;
 ghost use mathlib.Core.Path.{_≡_};
 ghost use Rattle.words.specs.Planes.{fromPlanes, Plane};
-ghost use Rattle.reduce.specs.Reduce.{reduceAnd, reduceOr, reduceXor, truthOf, knownBit};
-ghost use Rattle.reduce.specs.Reduce as reduce;
+ghost use Rattle.fold.specs.Fold.{reduceAnd, reduceOr, reduceXor, truthOf, knownBit};
+ghost use Rattle.fold.specs.Fold as fold;
 
 // Whether a known 1 stands in the vector, or a known 0 where `one` is false; unknown where only an unknown bit could be it.
 fn holds(width: u32, value: &[u64], unknown: &[u64], one: bool) -> Truth
     requires { ⌜ Plane width (now value) ⌝ }
     requires { ⌜ Plane width (now unknown) ⌝ }
-    ensures { λ r. ⌜ r ≡ reduce.holds (knownBit one) (fromPlanes width (now (value .entry)) (now (unknown .entry))) ⌝ }
+    ensures { λ r. ⌜ r ≡ fold.holds (knownBit one) (fromPlanes width (now (value .entry)) (now (unknown .entry))) ⌝ }
 {
     let flip = if one { 0 } else { 0xffff_ffff_ffff_ffff };
     let last = value.len() - 1;

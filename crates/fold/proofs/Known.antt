@@ -19,12 +19,12 @@ use Rattle.words.specs.Vector.{bitAt}
 use Rattle.words.specs.Planes.{stored, fromPlanes}
 use Rattle.words.proofs.Digits.{bit-and, bit-xor, bit-not, bit-ones, bit-of-zero, bit-lt, bit-mod, bit-mod-above, lt-or-ge}
 use Rattle.words.proofs.Planes.{length-tabulate}
-use Rattle.reduce.specs.declared.Truth.the-variants.{False, True, Unknown}
-use Rattle.reduce.specs.Reduce.{any, unknown, knownBit, holds}
-use Rattle.reduce.proofs.Gather.{gather-cong}
-use Rattle.reduce.proofs.Places.{some, nonzero, WordPlanes, inside, outside, unknown-word}
-use Rattle.reduce.proofs.Scan as scan
-use Rattle.reduce.proofs.Scan.{none-left, open-told}
+use Rattle.fold.specs.declared.Truth.the-variants.{False, True, Unknown}
+use Rattle.fold.specs.Fold.{any, unknown, knownBit, holds}
+use Rattle.fold.proofs.Gather.{gather-cong}
+use Rattle.fold.proofs.Places.{some, nonzero, WordPlanes, inside, outside, unknown-word}
+use Rattle.fold.proofs.Scan as scan
+use Rattle.fold.proofs.Scan.{none-left, open-told}
 
 -- all ones where the bit looked for is 0
 abbrev pub flipOf : Bool → ℕ

@@ -10,9 +10,9 @@ use borrow.Author.Tests.{ne-eqb}
 use lib.Dec.{eqb}
 use lib.ListN.{length, getD}
 use lib.Bits.{bitOr}
-use Rattle.reduce.specs.Reduce.{any}
-use Rattle.reduce.proofs.Gather.{gather}
-use Rattle.reduce.proofs.Places.{some, some-word, any-some, any-found, or-nonzero}
+use Rattle.fold.specs.Fold.{any}
+use Rattle.fold.proofs.Gather.{gather}
+use Rattle.fold.proofs.Places.{some, some-word, any-some, any-found, or-nonzero}
 
 module _ {B : Type 0} (p q : B → Bool) (e d : B) (bs : List B) where
   pub record Scanned (seen k : ℕ) : Type 0 where

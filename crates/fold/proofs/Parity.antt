@@ -23,9 +23,9 @@ use Rattle.words.specs.Vector.{at, bitAt}
 use Rattle.words.specs.Planes.{stored, fromPlanes}
 use Rattle.words.proofs.Digits.{bit-lt, bit-of-zero, differ-lt, lt-or-ge}
 use Rattle.words.proofs.Planes.{length-tabulate, plane-bit}
-use Rattle.reduce.specs.Reduce.{count, unknown, reduceXor}
-use Rattle.reduce.proofs.Gather.{gather, gather-cong, gather-word, of-list, of-digits}
-use Rattle.reduce.proofs.Places.{some, some-word, any-some, any-found, WordPlanes, unknownAt, inside, outside, unknown-word}
+use Rattle.fold.specs.Fold.{count, unknown, reduceXor}
+use Rattle.fold.proofs.Gather.{gather, gather-cong, gather-word, of-list, of-digits}
+use Rattle.fold.proofs.Places.{some, some-word, any-some, any-found, WordPlanes, unknownAt, inside, outside, unknown-word}
 
 -- ---- the ones of a word
 

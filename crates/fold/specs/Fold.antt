@@ -1,0 +1,54 @@
+-- Document 01, "Answer bit": the reductions (IEEE 1800-2017, 11.4.9) and truth (11.4.7), of a vector's bits.
+use mathlib.Core.Bool.{Bool, true, false, not, _||_, cond}
+use mathlib.Core.List.{List, [], _∷_}
+use Prim.Native.Nat.{ℕ, _+_, _%_}
+use lib.Dec.{eqb}
+use Rattle.bit.specs.declared.LogicBit.{LogicBit}
+use Rattle.bit.specs.declared.LogicBit.the-variants.{Zero, One, X}
+use Rattle.bit.specs.Rules.{same, known}
+use Rattle.fold.specs.declared.Truth.{Truth}
+use Rattle.fold.specs.declared.Truth.the-variants.{False, True, Unknown}
+
+module _ {A : Type 0} where
+  -- some member of a list passes the test
+  abbrev pub any : (A → Bool) → List A → Bool
+  any p [] = false
+  any p (b ∷ bs) = p b || any p bs
+
+-- how many bits pass the test
+abbrev pub count : (LogicBit → Bool) → List LogicBit → ℕ
+count p [] = 0
+count p (b ∷ bs) = cond (p b) 1 0 + count p bs
+
+abbrev pub unknown : LogicBit → Bool
+unknown b = not (known b)
+
+-- 0 on any known 0, else x on any unknown, else 1
+abbrev pub reduceAnd : List LogicBit → LogicBit
+reduceAnd bs = cond (any (same Zero) bs) Zero (cond (any unknown bs) X One)
+
+-- 1 on any known 1, else x on any unknown, else 0
+abbrev pub reduceOr : List LogicBit → LogicBit
+reduceOr bs = cond (any (same One) bs) One (cond (any unknown bs) X Zero)
+
+-- x on any unknown, else whether the number of ones is odd
+abbrev pub reduceXor : List LogicBit → LogicBit
+reduceXor bs = cond (any unknown bs) X (cond (eqb (count (same One) bs % 2) 0) Zero One)
+
+abbrev pub knownBit : Bool → LogicBit
+knownBit true = One
+knownBit false = Zero
+
+-- whether the known bit b stands in a vector: true where it does, else unknown on an unknown bit, else false
+abbrev pub holds : LogicBit → List LogicBit → Truth
+holds b bs = cond (any (same b) bs) True (cond (any unknown bs) Unknown False)
+
+-- true on a known 1, else unknown on an unknown bit, else false
+abbrev pub truthOf : List LogicBit → Truth
+truthOf = holds One
+
+-- a truth as a bit, x where it is unknown
+abbrev pub truthBit : Truth → LogicBit
+truthBit False = Zero
+truthBit True = One
+truthBit Unknown = X
