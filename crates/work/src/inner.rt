@@ -8,6 +8,9 @@ use fold::inner::xor_bits;
 use join::inner::join_planes;
 use join::inner::not_planes;
 use lanes::Bitwise;
+use ops::Kind;
+use ops::Op;
+use ops::Question;
 use value::Header;
 use words::inner::operand_word;
 ghost use mathlib.Core.Path.{_≡_};
