@@ -17,7 +17,6 @@ use refusal::Refusal;
 use refusal::Verdict;
 use value::Header;
 use words::word_count;
-use work::inner::work;
 ghost use mathlib.Core.Path.{_≡_};
 ghost use mathlib.Core.Bool.{true};
 ghost use Prim.Native.Nat.{_≤_, _<_, _+_, min};
