@@ -15,6 +15,7 @@ use replay::inner::field;
 use replay::inner::plain;
 use replay::is_bit;
 use value::Header;
+use words::Word;
 
 // A field that is a number.
 fn number(line: &[u8], k: usize) -> u64 {
@@ -47,12 +48,16 @@ fn done(refusal: u8) -> BitResult {
     }
 }
 
-// A call that writes: whether it says that a bit changed.
-fn write(call: usize, line: &[u8], h: Header, value: &mut [u64], unknown: &mut [u64]) -> BitResult {
-    let i = number(line, 4) as usize;
-    let f = plain(line, 5);
-    let bits = f.word;
-    let n = number(line, 6) as usize;
+// A call that writes bits at a place: whether it says that a bit changed.
+fn write(
+    call: usize,
+    h: Header,
+    value: &mut [u64],
+    unknown: &mut [u64],
+    i: usize,
+    bits: Word,
+    n: usize,
+) -> BitResult {
     match call {
         2 => done(vowherunga_set(
             h.width,
@@ -69,7 +74,9 @@ fn write(call: usize, line: &[u8], h: Header, value: &mut [u64], unknown: &mut [
 
 // Whether a call that writes has the line's answer, says that a bit changed if field 7 is 1, and leaves the planes as the answer says.
 fn writes(call: usize, line: &[u8], h: Header, value: &mut [u64], unknown: &mut [u64]) -> bool {
-    let r = write(call, line, h, value, unknown);
+    let f = plain(line, 5);
+    let n = number(line, 6) as usize;
+    let r = write(call, h, value, unknown, number(line, 4) as usize, f.word, n);
     answers(plain(line, 0), r.refusal, r.bit as u64 == number(line, 7))
         && are_left(line, 3, value, unknown)
 }
