@@ -33,6 +33,11 @@ fn result(
     }
 }
 
+// Whether a call gave the line's answer and left the planes as that says.
+fn is_answer(line: &[u8], k: usize, r: HeaderResult, value: &[u64], unknown: &[u64]) -> bool {
+    is_vector(plain(line, 0), r) && are_left(line, k, value, unknown)
+}
+
 // The operators whose operands are lent; the last field is what the planes lent for the result hold before the call.
 fn on_operands(
     call: usize,
@@ -53,7 +58,7 @@ fn on_operands(
     let ov = &mut value[0..m];
     let ou = &mut unknown[0..n];
     let r = result(call, a, av, au, b, bv, bu, ov, ou);
-    is_vector(plain(line, 0), r) && are_left(line, k, ov, ou)
+    is_answer(line, k, r, ov, ou)
 }
 
 // The operators whose left operand is lent.
