@@ -20,7 +20,7 @@ pub fn top_bit(h: Header, value: &[u64], unknown: &[u64]) -> LogicBit
         return LogicBit::Zero;
     }
     let last = width as usize - 1;
-    planes::inner::get(width, value, unknown, last)
+    bits::inner::get(width, value, unknown, last)
 }
 
 // Whether the operator stretches a vector: a fill, and an operator that stretches fills.
@@ -67,7 +67,7 @@ pub fn extent(op: Operator, a: Header, value: &[u64], unknown: &[u64], b: Header
     if is_stretched(op, a) {
         return Extent {
             width: 0,
-            beyond: planes::inner::get(width, value, unknown, 0),
+            beyond: bits::inner::get(width, value, unknown, 0),
         };
     }
     if is_sign_extended(op, a, b) {

@@ -21,8 +21,8 @@ use Rattle.words.specs.Vector.{at, bitAt, tabulate, pack}
 use Rattle.words.specs.Planes.{valueDigit, unknownDigit, stored, packed, bitOf}
 use Rattle.words.proofs.Digits.{bit-lt, bit-mod, bit-mod-above, pack-bit, pack-ext, lt-or-ge}
 use Rattle.words.proofs.Planes.{eq-tabulate, stored-bit, value-digit-lt, unknown-digit-lt, value-digit-stored, unknown-digit-stored}
-use Rattle.planes.specs.Entries.{within, spliceCount, spliced, extracted}
-use Rattle.planes.proofs.Splice.{packed-bit}
+use Rattle.bits.specs.Bits.{within, spliceCount, spliced, extracted}
+use Rattle.bits.proofs.Splice.{packed-bit}
 use Rattle.insert.specs.Insert.{allBelow, stands}
 
 -- ---- tests

@@ -11,7 +11,7 @@ use Rattle.refusal.specs.Outcome.Answer.{given, refused}
 use Rattle.words.specs.declared.Word.{Word}
 use Rattle.words.specs.Vector.{at}
 use Rattle.words.specs.Planes.{Planes, planesOf, bitOf}
-use Rattle.planes.specs.Entries.{spliceCount, spliced}
+use Rattle.bits.specs.Bits.{spliceCount, spliced}
 use Rattle.value.specs.declared.Header.{Header}
 use Rattle.value.specs.Checks.{vector, checkVector}
 use Rattle.insert.specs.declared.ChangeAnswer.{ChangeAnswer}

@@ -6,7 +6,7 @@ ghost use mathlib.Core.Path.{_≡_};
 ghost use mathlib.Core.Bool.{not, _&&_};
 ghost use lib.Dec.{eqb};
 ghost use Rattle.words.specs.Planes.{fromPlanes, lent, planesOf, Plane};
-ghost use Rattle.planes.specs.Entries.{spliced};
+ghost use Rattle.bits.specs.Bits.{spliced};
 ghost use Rattle.insert.specs.Insert.{stands};
 
 // Whether a word of both planes is these two words.
@@ -40,11 +40,11 @@ pub fn splice_bits64(
     }
     let room = least(64, w - pos);
     let count = least(n, room);
-    let old = planes::inner::extract64(width, value, unknown, pos, count);
+    let old = bits::inner::extract64(width, value, unknown, pos, count);
     let m = ones(count);
     if is_word(old, bits.value & m, bits.unknown & m) {
         return false;
     }
-    planes::inner::splice64(width, value, unknown, pos, bits, n);
+    bits::inner::splice64(width, value, unknown, pos, bits, n);
     true
 }

@@ -18,8 +18,8 @@ use Rattle.bit.specs.Rules.{andBit, orBit, xorBit, notBit}
 use Rattle.words.specs.Vector.{at}
 use Rattle.words.specs.Planes.{packed, bitOf}
 use Rattle.words.proofs.Planes.{length-tabulate, getD-tabulate}
-use Rattle.planes.specs.Entries.{spliceCount, within}
-use Rattle.planes.proofs.Splice.{packed-bit}
+use Rattle.bits.specs.Bits.{spliceCount, within}
+use Rattle.bits.proofs.Splice.{packed-bit}
 use Rattle.value.specs.Checks.{Vector}
 use Rattle.lanes.specs.declared.Bitwise.{Bitwise}
 use Rattle.lanes.specs.declared.Bitwise.the-variants as bitwise

@@ -55,7 +55,7 @@ fn put_bits(out: &mut [u8], at: usize, width: u32, value: &[u64], unknown: &[u64
     let mut left = width as usize;
     while 0 < left {
         left -= 1;
-        let b = planes::inner::get(width, value, unknown, left);
+        let b = bits::inner::get(width, value, unknown, left);
         out[i] = bit_byte(b);
         i += 1;
     }

@@ -8,7 +8,7 @@ use Rattle.bit.specs.declared.LogicBit.{LogicBit}
 use Rattle.bit.specs.Rules.{andBit, orBit}
 use Rattle.words.specs.Vector.{at}
 use Rattle.words.specs.Planes.{packed}
-use Rattle.planes.specs.Entries.{spliced}
+use Rattle.bits.specs.Bits.{spliced}
 use Rattle.value.specs.declared.Header.{Header}
 use Rattle.value.specs.Checks.{Vector}
 use Rattle.value.specs.Constructors.{plain}

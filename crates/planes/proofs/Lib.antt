@@ -1,3 +1,1 @@
-pub mod Put
-pub mod Splice
 pub mod Checks

@@ -9,8 +9,6 @@ ghost use Rattle.refusal.specs.Outcome.{outcome, verdict};
 ghost use Rattle.words.specs.Planes.{lent};
 ghost use Rattle.planes.specs.Entries.{bitAnswer, wordAnswer, checkLengths, checkPlanes, getBit, setBit, spliceBits, extractBits, maskTop};
 
-pub mod inner;
-
 // The widest vector.
 pub const MAX_WIDTH: u32 = 1_048_576;
 
@@ -65,7 +63,7 @@ pub fn get(width: u32, value: &[u64], unknown: &[u64], i: usize) -> BitAnswer
 {
     match check_planes(width, value, unknown) {
         Verdict::Refused(r) => BitAnswer::Refused(r),
-        Verdict::Accepted => BitAnswer::Bit(inner::get(width, value, unknown, i)),
+        Verdict::Accepted => BitAnswer::Bit(bits::inner::get(width, value, unknown, i)),
     }
 }
 
@@ -77,7 +75,7 @@ pub fn set(width: u32, value: &mut [u64], unknown: &mut [u64], i: usize, bit: Lo
         Verdict::Refused(r) => Verdict::Refused(r),
         Verdict::Accepted => {
             let b = words::inner::filled(bit);
-            inner::splice64(width, value, unknown, i, b, 1);
+            bits::inner::splice64(width, value, unknown, i, b, 1);
             Verdict::Accepted
         }
     }
@@ -97,7 +95,7 @@ pub fn splice64(
     match check_planes(width, value, unknown) {
         Verdict::Refused(r) => Verdict::Refused(r),
         Verdict::Accepted => {
-            inner::splice64(width, value, unknown, pos, bits, n);
+            bits::inner::splice64(width, value, unknown, pos, bits, n);
             Verdict::Accepted
         }
     }
@@ -109,7 +107,13 @@ pub fn extract64(width: u32, value: &[u64], unknown: &[u64], pos: usize, n: usiz
 {
     match check_planes(width, value, unknown) {
         Verdict::Refused(r) => WordAnswer::Refused(r),
-        Verdict::Accepted => WordAnswer::Bits(inner::extract64(width, value, unknown, pos, n)),
+        Verdict::Accepted => WordAnswer::Bits(bits::inner::extract64(
+            width,
+            value,
+            unknown,
+            pos,
+            n,
+        )),
     }
 }
 

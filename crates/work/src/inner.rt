@@ -147,7 +147,7 @@ fn insert(
     let n = from as usize;
     let bits = operand_word(bv, bu, from, 0, LogicBit::Zero);
     copy_planes(av, au, ov, ou);
-    planes::inner::splice64(width, ov, ou, pos, bits, n);
+    bits::inner::splice64(width, ov, ou, pos, bits, n);
 }
 
 // The op on accepted operands; one that it does not name may be any. `pos` is the position of insert.

@@ -2,8 +2,8 @@
 use Rattle.refusal.specs.Outcome.Answer.{given}
 use Rattle.words.specs.Planes.{fromPlanes}
 use Rattle.words.specs.Planes.{Planes, planesOf}
-use Rattle.planes.specs.Entries.{spliced}
-use Rattle.planes.proofs.Splice.{set-spliced}
+use Rattle.bits.specs.Bits.{spliced}
+use Rattle.bits.proofs.Splice.{set-spliced}
 use mathlib.Core.Path.{_≡_, sym, ap, _∙_}
 use Rattle.refusal.specs.Outcome.{outcome, verdict}
 use Rattle.planes.proofs.Checks.{planes-accepted}

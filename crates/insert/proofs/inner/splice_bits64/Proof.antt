@@ -11,8 +11,8 @@ use Rattle.words.specs.declared.Word.{Word}
 use Rattle.words.specs.Vector.{at}
 use Rattle.words.specs.Planes.{fromPlanes, bitOf, planesOf}
 use Rattle.words.proofs.Planes.{length-tabulate}
-use Rattle.planes.specs.Entries.{spliceCount}
-use Rattle.planes.proofs.Splice.{planes-again, spliced-none}
+use Rattle.bits.specs.Bits.{spliceCount}
+use Rattle.bits.proofs.Splice.{planes-again, spliced-none}
 use Rattle.insert.specs.Insert.{allBelow, stands}
 use Rattle.insert.proofs.Standing.{told-by-words, stands-spliced}
 use borrow.Author.Needs.{needs}

@@ -4,7 +4,7 @@ use mathlib.Core.List.{List}
 use Prim.Native.Nat.{ℕ, _+_, _^_, _<_}
 use lib.ListN.{getD, set}
 use Rattle.words.specs.Planes.{Planes, lent, planesOf, fromPlanes, Plane}
-use Rattle.planes.proofs.Splice.{planes-again}
+use Rattle.bits.proofs.Splice.{planes-again}
 use Rattle.value.specs.declared.Header.{Header}
 use Rattle.value.specs.Checks.{vector}
 use Rattle.store.specs.declared.Store.{Store}

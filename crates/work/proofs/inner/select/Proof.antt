@@ -2,7 +2,7 @@
 use mathlib.Core.Path.{_≡_, sym, ap, _∙_}
 use native.Mathlib.Omega.{arith}
 use Rattle.words.specs.Planes.{fromPlanes, lent, planesOf}
-use Rattle.planes.proofs.Splice.{planes-again}
+use Rattle.bits.proofs.Splice.{planes-again}
 use Rattle.value.specs.Checks.{vector}
 use Rattle.fold.specs.declared.Truth.{Truth}
 use Rattle.fold.specs.Fold.{truthOf}

@@ -20,7 +20,7 @@ use Rattle.words.specs.declared.Word.{Word}
 use Rattle.words.specs.Vector.{bitAt, tabulate, pack, at}
 use Rattle.words.specs.Planes.{valueDigit, unknownDigit, stored, wordCount, planeBit, fromPlanes, wordOf, planeOf, packed, bitOf, Plane}
 use Rattle.words.specs.Planes.{Planes, lent, planesOf}
-use Rattle.planes.specs.Entries.{within, spliceCount, spliced, splicedPlane, extracted}
+use Rattle.bits.specs.Bits.{within, spliceCount, spliced, splicedPlane, extracted}
 use Rattle.words.proofs.Digits.{bit-lt, pack-bit, pack-cong, lt-or-ge}
 use Rattle.words.proofs.Planes.{length-tabulate, getD-tabulate, getD-tabulate-out, eq-tabulate, value-digit-lt, unknown-digit-lt, stored-bit, value-again, unknown-again, whole}
 use Rattle.words.proofs.Extend.{cut}

@@ -13,7 +13,7 @@ use lib.ListN.{length, getD, set, length-set}
 use lib.Seq.{getD-set-same, getD-set-other}
 use Rattle.words.specs.Vector.{bitAt, tabulate, pack}
 use Rattle.words.specs.Planes.{planeBit}
-use Rattle.planes.specs.Entries.{within, splicedPlane}
+use Rattle.bits.specs.Bits.{within, splicedPlane}
 use Rattle.words.proofs.Digits.{bit-shr, pack-ext, pack-cong, lt-or-ge}
 use Rattle.words.proofs.Planes.{eq-tabulate, plane-bit}
 use Rattle.words.proofs.Extend.{ones-digit}

@@ -1,4 +1,4 @@
-// The work behind the entries. These ask their caller for planes of the right length.
+// The work behind reading bits out of planes and putting them in. These ask their caller for planes of the right length.
 use bit::LogicBit;
 use words::Word;
 use words::inner::blend;
@@ -10,7 +10,7 @@ ghost use Prim.Native.Nat.{_+_, _*_, _≤_, _<_};
 ghost use lib.ListN.{length};
 ghost use Rattle.words.specs.Vector.{at};
 ghost use Rattle.words.specs.Planes.{wordCount, fromPlanes, lent, planesOf, Plane};
-ghost use Rattle.planes.specs.Entries.{spliced, extracted, splicedPlane};
+ghost use Rattle.bits.specs.Bits.{spliced, extracted, splicedPlane};
 
 // Bit i; 0 at or above the width.
 pub fn get(width: u32, value: &[u64], unknown: &[u64], i: usize) -> LogicBit

@@ -1,14 +1,14 @@
--- `planes::inner::extract64`: each plane's word, masked.
+-- `bits::inner::extract64`: each plane's word, masked.
 use mathlib.Core.Path.{_≡_, refl, sym, ap, ap₂, _∙_}
 use Prim.Native.Nat.{ℕ, _-_, _^_}
 use lib.Bits.{bitAnd}
 use Rattle.words.specs.Planes.{valueDigit, unknownDigit}
 use Rattle.words.proofs.Planes.{value-digit-lt, unknown-digit-lt}
 use Rattle.words.proofs.Extend.{wordBy, value-is, unknown-is}
-use Rattle.planes.proofs.Splice.{extracted-word}
+use Rattle.bits.proofs.Splice.{extracted-word}
 use borrow.Author.Needs.{needs}
-use Rattle.planes.proofs.inner.extract64.Statement.{statement}
-use Rattle.planes.proofs.inner.extract64.Tie as tie
+use Rattle.bits.proofs.inner.extract64.Statement.{statement}
+use Rattle.bits.proofs.inner.extract64.Tie as tie
 
 least-requires : tie.Need-least-requires
 least-requires c κs = search needs

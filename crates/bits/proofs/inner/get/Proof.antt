@@ -1,12 +1,12 @@
--- `planes::inner::get`: the two digits at the place.
+-- `bits::inner::get`: the two digits at the place.
 use mathlib.Core.Path.{sym, ap₂, _∙_}
 use native.Mathlib.Omega.{arith}
 use Rattle.bit.specs.declared.LogicBit.the-variants.{Zero}
 use Rattle.words.specs.Planes.{stored, planeBit}
 use Rattle.words.proofs.Planes.{getD-tabulate-out, at-planes, stored-one, stored-x, stored-z}
 use borrow.Author.Needs.{needs}
-use Rattle.planes.proofs.inner.get.Statement.{statement}
-use Rattle.planes.proofs.inner.get.Tie as tie
+use Rattle.bits.proofs.inner.get.Statement.{statement}
+use Rattle.bits.proofs.inner.get.Tie as tie
 
 returns : tie.Need-returns
 returns c =

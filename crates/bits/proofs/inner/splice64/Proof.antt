@@ -1,18 +1,18 @@
--- `planes::inner::splice64`: each plane by its digit; at or above the width nothing.
+-- `bits::inner::splice64`: each plane by its digit; at or above the width nothing.
 use Rattle.words.specs.Vector.{bitAt}
 use mathlib.Core.Path.{_≡_, refl, sym, ap, ap₂, _∙_}
 use Prim.Native.Nat.{ℕ, _-_, _<_, min}
 use native.Mathlib.Omega.{arith}
 use Rattle.words.specs.Planes.{valueDigit, unknownDigit, bitOf, fromPlanes}
 use Rattle.words.specs.Planes.{lent, planesOf}
-use Rattle.planes.specs.Entries.{splicedPlane, spliceCount}
+use Rattle.bits.specs.Bits.{splicedPlane, spliceCount}
 use Rattle.words.proofs.Digits.{bit-lt}
 use Rattle.words.proofs.Planes.{length-tabulate, value-digit-lt, unknown-digit-lt, value-digit-stored, unknown-digit-stored}
 use Rattle.words.proofs.Extend.{value-is, unknown-is}
-use Rattle.planes.proofs.Splice.{planes-again, spliced-none, spliced-plane}
+use Rattle.bits.proofs.Splice.{planes-again, spliced-none, spliced-plane}
 use borrow.Author.Needs.{needs}
-use Rattle.planes.proofs.inner.splice64.Statement.{statement}
-use Rattle.planes.proofs.inner.splice64.Tie as tie
+use Rattle.bits.proofs.inner.splice64.Statement.{statement}
+use Rattle.bits.proofs.inner.splice64.Tie as tie
 
 returns : tie.Need-returns
 returns c =

@@ -1,4 +1,4 @@
--- `planes::inner::splice_plane`: one word, or two where the bits cross a word edge.
+-- `bits::inner::splice_plane`: one word, or two where the bits cross a word edge.
 use lib.Seq.{getD-set-other}
 use mathlib.Core.Bool.{cond}
 use lib.Dec.{eqb}
@@ -8,10 +8,10 @@ use Prim.Native.Nat.{ℕ, _+_, _-_, _*_, _/_, _%_, _^_, _<_}
 use native.Mathlib.Nat.{div-add-mod'}
 use native.Mathlib.Omega.{arith}
 use lib.ListN.{getD, length-set}
-use Rattle.planes.proofs.Put.{low-word, spliced-one, high-word, spliced-two}
+use Rattle.bits.proofs.Put.{low-word, spliced-one, high-word, spliced-two}
 use borrow.Author.Needs.{needs}
-use Rattle.planes.proofs.inner.splice_plane.Statement.{statement}
-use Rattle.planes.proofs.inner.splice_plane.Tie as tie
+use Rattle.bits.proofs.inner.splice_plane.Statement.{statement}
+use Rattle.bits.proofs.inner.splice_plane.Tie as tie
 
 ones-requires : tie.Need-ones-requires
 ones-requires c κs = search needs
