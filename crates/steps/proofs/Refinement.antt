@@ -37,7 +37,7 @@ module _ (m : Lent) (A : List Vector) (level : length (m .arenas .unknown) ≡ l
       record { ending = t .0; cells = t .1 }
 
 pub refinement : Refinement
-refinement m n level arenas scratch A B ss sound nofill accepted refines =
+refinement m n level arenas scratch A B ss sound accepted refines =
     let sound-B = sound-again Refines A B refines sound in
     let level-B : length (n .arenas .unknown) ≡ length (n .arenas .value) = arenas .1 ∙ level ∙ sym (arenas .0) in
     let r : room n ≡ room m = λ i. record { arena = arenas .0 i; scratch = min (scratch .0 i) (scratch .1 i) } in
@@ -52,6 +52,6 @@ refinement m n level arenas scratch A B ss sound nofill accepted refines =
       plain = p;
       plain-refined = q;
       kept = λ k. subst (λ z. Cellwise Keeps (machineRun (room m) A ss .cells) (machineRun z B ss .cells)) (sym r) (l .kept k);
-      exact = exact (room m) A ss sound nofill;
-      exact-refined = exact (room n) B ss sound-B (plain-again Refines A B refines nofill);
+      exact = exact (room m) A ss sound;
+      exact-refined = λ none. exact (room n) B ss sound-B (plain-again Refines A B refines none);
     }

@@ -1,6 +1,7 @@
 -- Demand 3 (document 01, "The runs of demand 3"), one statement about the run of a whole list: making unknown input bits known changes no ending
--- and no known bit, each run's cells are those of the plain machine whatever memory held, and each result bit is known as v exactly when all
--- separate completions of that step's operands give v.
+-- and, in lists without case and wildcard comparisons, no known bit; each run's cells are those of the plain machine whatever memory held; and
+-- each result bit of such a step is known as v exactly when all separate completions of its operands give v, where no input is a fill and the
+-- operands of an equality are of equal width.
 use mathlib.Core.Path.{_≡_}
 use mathlib.Core.List.{List}
 use lib.ListN.{length}
@@ -47,12 +48,12 @@ pub record Refined (m n : Lent) (A B : List Vector) (ss : List Step) : Type 0 wh
   pub plain-refined : Plain n B ss
   -- every bit known in any cell under A is the same under B
   pub kept : AllKeep ss → Cellwise Keeps (machineRun (roomOf (m .arenas) (m .scratch)) A ss .cells) (machineRun (roomOf (n .arenas) (n .scratch)) B ss .cells)
-  -- each bit of each step's result is known as v exactly when all completions of the step's operands give v
-  pub exact : ExactRun (roomOf (m .arenas) (m .scratch)) A ss
-  pub exact-refined : ExactRun (roomOf (n .arenas) (n .scratch)) B ss
+  -- where no input is a fill, each bit of each step's result is known as v exactly when all completions of the step's operands give v
+  pub exact : NoFill A → ExactRun (roomOf (m .arenas) (m .scratch)) A ss
+  pub exact-refined : NoFill A → ExactRun (roomOf (n .arenas) (n .scratch)) B ss
 
--- for any memory of arenas of equal length and any other of the same lengths, accepted inputs A, none a fill, and every B that refines A. The part
--- `kept` is of lists without case and wildcard comparisons, the parts `exact` of their steps; the others are of any list
+-- for any memory of arenas of equal length and any other of the same lengths, accepted inputs A, and every B that refines A. The part `kept` is of
+-- lists without case and wildcard comparisons, the parts `exact` of their steps; the others are of any list
 abbrev pub Refinement : Type 0
 Refinement = (m n : Lent) → length (m .arenas .unknown) ≡ length (m .arenas .value) → SameLengths (m .arenas) (n .arenas) → SameLengths (m .scratch) (n .scratch)
-    → (A B : List Vector) (ss : List Step) → AllSound A → NoFill A → Accepted m A → Cellwise Refines A B → Refined m n A B ss
+    → (A B : List Vector) (ss : List Step) → AllSound A → Accepted m A → Cellwise Refines A B → Refined m n A B ss

@@ -23,9 +23,18 @@ pub record Ran : Type 0 where
 abbrev pub ran : Memory → List ℕ → Ending → Ran
 ran m t e = record { memory = m; text = t; ending = e }
 
+-- the last lines tell how the run ended: done= and the number of steps run, or refused= and step=
+abbrev pub endText : Ending → ℕ → List ℕ
+endText AtEnd k = doneText k
+endText (RefusedAt n step) k = refusedText n step
+
+-- a run that ends behind k steps
+abbrev pub ended : Memory → ℕ → Ending → Ran
+ended m k e = ran m (endText e k) e
+
 -- a refusal of the file or of an input leaves the memory as it found it
 abbrev pub refusedFirst : Memory → ℕ → Ran
-refusedFirst m n = ran m (refusedText n 0) (RefusedAt n 0)
+refusedFirst m n = ended m 0 (RefusedAt n 0)
 
 -- ---- the steps
 
@@ -37,11 +46,11 @@ stepText (refused n) k bits = refusedText n (suc k)
 -- a refused step is the run's last; the lines of the others come before those of the steps behind them
 abbrev pub afterStep : Answer ℕ → Memory → ℕ → List LogicBit → Ran → Ran
 afterStep (given n) left k bits rest = ran (rest .memory) (stepText (given n) k bits ++ rest .text) (rest .ending)
-afterStep (refused n) left k bits rest = ran left (stepText (refused n) k bits) (RefusedAt n (suc k))
+afterStep (refused n) left k bits rest = ended left k (RefusedAt n (suc k))
 
 -- the steps of a list, behind k steps that were run
 unfoldable pub runSteps : Memory → ℕ → List Step → Ran
-runSteps m k [] = ran m (doneText k) AtEnd
+runSteps m k [] = ended m k AtEnd
 runSteps m k (s ∷ ss) =
     let left = addStep m s .left in
     afterStep (addStep m s .answer) left k (stepVector (m .state) s .bits) (runSteps left (suc k) ss)

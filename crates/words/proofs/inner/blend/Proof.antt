@@ -1,4 +1,4 @@
--- `planes::inner::blend`: digit by digit.
+-- `words::inner::blend`: digit by digit.
 use Rattle.words.proofs.Extend.{blend}
 use Rattle.words.proofs.inner.blend.Statement.{statement}
 use Rattle.words.proofs.inner.blend.Tie as tie

@@ -1,4 +1,4 @@
--- `planes::inner::extend_into`: the words below k are those of the vector.
+-- `words::inner::extend_into`: the words below k are those of the vector.
 use mathlib.Core.Path.{_≡_, refl, sym, ap, ap₂, _∙_}
 use mathlib.Core.List.{List}
 use Prim.Native.Nat.{ℕ, _≤_, _<_, _-_, _^_}

@@ -1,4 +1,4 @@
--- `planes::inner::extended_word`: the word is whole below the width, whole above it, or blended.
+-- `words::inner::extended_word`: the word is whole below the width, whole above it, or blended.
 use mathlib.Core.Path.{_∙_, ap}
 use Prim.Native.Nat.{ℕ}
 use Rattle.words.proofs.Extend.{extended, inside, beyond}

@@ -1,4 +1,4 @@
--- `planes::inner::filled`: the four bits, each computed.
+-- `words::inner::filled`: the four bits, each computed.
 use mathlib.Core.Path.{refl}
 use Rattle.words.specs.Vector.{pack}
 use borrow.Author.Needs.{needs}

@@ -1,4 +1,4 @@
--- `planes::inner::is_clear`: the last word tells.
+-- `words::inner::is_clear`: the last word tells.
 use Rattle.words.proofs.Top.{top-clear}
 use borrow.Author.Needs.{needs}
 use Rattle.words.proofs.inner.is_clear.Statement.{statement}

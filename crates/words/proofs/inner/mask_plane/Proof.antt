@@ -1,4 +1,4 @@
--- `planes::inner::mask_plane`: masking the last word masks the plane.
+-- `words::inner::mask_plane`: masking the last word masks the plane.
 use Rattle.words.proofs.Top.{top-masked}
 use borrow.Author.Needs.{needs}
 use Rattle.words.proofs.inner.mask_plane.Statement.{statement}

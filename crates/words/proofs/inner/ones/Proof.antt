@@ -1,4 +1,4 @@
--- `planes::inner::ones`: all ones, shifted right by what is missing.
+-- `words::inner::ones`: all ones, shifted right by what is missing.
 use mathlib.Core.Path.{_≡_, sym, ap, _∙_}
 use Prim.Native.Nat.{ℕ, _+_, _-_, _/_, _^_}
 use native.Mathlib.Omega.{arith}

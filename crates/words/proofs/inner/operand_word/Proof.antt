@@ -1,4 +1,4 @@
--- `planes::inner::operand_word`: each plane by its digit.
+-- `words::inner::operand_word`: each plane by its digit.
 use mathlib.Core.Path.{_≡_, sym, ap, ap₂, _∙_}
 use Prim.Native.Nat.{ℕ}
 use Rattle.words.specs.declared.Word.{Word}

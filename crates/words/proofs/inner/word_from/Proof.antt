@@ -1,4 +1,4 @@
--- `planes::inner::word_from`: the rest of one word, and where there is a next one, its beginning.
+-- `words::inner::word_from`: the rest of one word, and where there is a next one, its beginning.
 use mathlib.Core.Path.{sym, ap, _∙_}
 use Prim.Native.Nat.{ℕ, _-_, _/_, _%_}
 use native.Mathlib.Omega.{arith}
