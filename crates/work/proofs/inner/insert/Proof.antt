@@ -4,7 +4,7 @@ use Rattle.words.specs.declared.Word.{Word}
 use Rattle.words.specs.Vector.{at}
 use Rattle.words.specs.Planes.{Planes, Plane, fromPlanes, vectorOf, planesOf}
 use Rattle.bits.specs.Bits.{spliced}
-use Rattle.ops.proofs.Results.{first-word}
+use Rattle.work.proofs.Words.{first-word}
 use borrow.Author.Needs.{needs}
 use Rattle.work.proofs.inner.insert.Statement.{statement}
 use Rattle.work.proofs.inner.insert.Tie as tie
