@@ -1,7 +1,7 @@
 // A store of cells as it crosses to C and Rust: the number of its cells, and four arrays with the start word, the width and the two marks of each
 // of its 320 places. Also an op by its number, and the answer of a call on the store as numbers.
+use cells::Cell;
 use ops::Op;
-use store::Cell;
 use store::CellAnswer;
 use store::Store;
 use store::Stored;

@@ -17,7 +17,7 @@ use Rattle.knownness.specs.Knownness.{AllSound}
 use Rattle.store.specs.Store.{State, Holds, roomOf, appended, checkHeader, checkInput}
 use Rattle.store.proofs.Held.{Added}
 use Rattle.store.proofs.Inputs.{input-check, input-holds}
-use Rattle.steps.specs.Run.{addListed, afterInput, addInputs}
+use Rattle.inputs.specs.Inputs.{addListed, afterInput, addInputs}
 
 abbrev checkFirst : Room → List Header → Header → Answer Unit
 checkFirst r hs h = after (checkCount hs) (after (checkHeader h) (checkRoom r hs (h .width)))

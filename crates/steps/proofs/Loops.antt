@@ -1,81 +1,26 @@
--- What is left of a list, once its first inputs or steps are done: the invariants of the two loops of a run.
---     feed-start, feed-more, feed-last, feed-done       the inputs
---     walk-start, walk-more, walk-last, walk-done       the steps
+-- What is left of a list, once its first steps are done: the invariant of the loop.
+--     walk-start, walk-more, walk-last, walk-done
 use mathlib.Core.Path.{_≡_, refl, sym, ap, ap₂, _∙_, subst}
-use mathlib.Core.List.{List, [], _∷_}
+use mathlib.Core.List.{List, _∷_}
 use Prim.Native.Nat.{ℕ, suc, _+_, _*_, _≤_, _<_}
 use native.Mathlib.Numerals.{add-one}
 use native.Mathlib.Omega.{arith}
-use lib.ListN.{length, drop, drop-of-length-le}
-use lib.Seq.{drop-cons}
+use lib.ListN.{length, drop}
 use Rattle.refusal.specs.Outcome.{Answer, Outcome, outcome, orRefuse}
 use Rattle.refusal.specs.Outcome.Answer.{given, refused}
 use Rattle.words.specs.Vector.{tabulate}
-use Rattle.words.specs.Planes.{planesOf}
-use Rattle.words.proofs.Planes.{length-tabulate, getD-tabulate}
-use Rattle.value.specs.Checks.{Vector, vector}
 use Rattle.lines.specs.Buffer.{Buffer, buffer, put}
 use Rattle.output.specs.Output.{doneText}
 use Rattle.ops.specs.declared.Step.{Step}
-use Rattle.store.specs.Store.{State, state, appended, checkInput}
+use Rattle.store.specs.Store.{state}
 use Rattle.store.specs.Step.{Memory, checkMemory, stepVector, stepped, addStep}
-use Rattle.steps.specs.Run.{stepText, runSteps, addListed, addInputs, written, writtenBy}
-use Rattle.steps.specs.Limits.{Thin, Narrow}
-use Rattle.steps.proofs.Turns.{steps-done, step-turn, step-last, inputs-done, input-turn, input-last}
-use Rattle.steps.proofs.Narrow.{narrow-put, step-narrow}
-
-module _ {A : Type 0} (n : ℕ) (f : ℕ → A) (i : ℕ) where
-  next-one : i < n → drop i (tabulate n f) ≡ f i ∷ drop (i + 1) (tabulate n f)
-  next-one h =
-      let l : i < length (tabulate n f) = omega (arith, length-tabulate n f) in
-      drop-cons (tabulate n f) i (f i) l
-      ∙ ap₂ (λ (x : A) (k : ℕ). x ∷ drop k (tabulate n f)) (getD-tabulate n f i (f i) h) (sym (add-one i))
-
-  none-left : n ≤ i → drop i (tabulate n f) ≡ []
-  none-left h = drop-of-length-le (tabulate n f) {i = i} (omega (arith, length-tabulate n f))
-
--- ---- the inputs
-
-listed-narrow : (s : State) (v : Vector) → Narrow (s .store) → Thin (v .header) → Narrow (addListed s v .left .store)
-listed-narrow s v n t = go (checkInput s (v .header) (planesOf (v .bits)))
-  where
-    go : (x : Answer Unit) → Narrow (orRefuse x s (outcome (given (s .store .count)) (appended (vector (v .header) (planesOf (v .bits))) s)) .left .store)
-    go (given u) = narrow-put (v .header) (s .store) n t
-    go (refused k) = n
-
--- the state s with the inputs from i on has the outcome of the state `from` with all n of them
-pub record Fed (from : State) (n : ℕ) (f : ℕ → Vector) (s : State) (i : ℕ) : Type 0 where
-  pub narrow : Narrow (s .store)
-  pub left : addInputs from (tabulate n f) ≡ addInputs s (drop i (tabulate n f))
-
-module _ (n : ℕ) (f : ℕ → Vector) where
-  pub feed-start : (from s : State) → s ≡ from → Narrow (from .store) → Fed from n f s 0
-  feed-start from s e t = subst (λ (z : State). Fed from n f z 0) (sym e) (record { narrow = t; left = refl })
-
-  module _ (from s : State) (i : ℕ) (h : Fed from n f s i) where
-    pub feed-done : n ≤ i → outcome (given tt) s ≡ addInputs from (tabulate n f)
-    feed-done l = sym (h .left ∙ ap (addInputs s) (none-left n f i l) ∙ inputs-done s)
-
-    module _ (l : i < n) where
-      onto : addInputs from (tabulate n f) ≡ addInputs s (f i ∷ drop (i + 1) (tabulate n f))
-      onto = h .left ∙ ap (addInputs s) (next-one n f i l)
-
-      pub feed-more : (k : ℕ) (t : State) → outcome (given k) t ≡ addListed s (f i) → Thin (f i .header) → Fed from n f t (i + 1)
-      feed-more k t e thin =
-          subst (λ (z : State). Fed from n f z (i + 1)) (sym (ap (λ (o : Outcome ℕ State). o .left) e)) (record {
-            narrow = listed-narrow s (f i) (h .narrow) thin;
-            left = onto ∙ input-turn s (f i) (drop (i + 1) (tabulate n f)) k (sym (ap (λ (o : Outcome ℕ State). o .answer) e));
-          })
-
-      pub feed-last : (k : ℕ) (t : State) → outcome (refused k) t ≡ addListed s (f i) → Thin (f i .header)
-          → (outcome (refused k) t ≡ addInputs from (tabulate n f)) × Narrow (t .store)
-      feed-last k t e thin = (
-        ap (λ (z : State). outcome (refused k) z) (ap (λ (o : Outcome ℕ State). o .left) e)
-            ∙ sym (onto ∙ input-last s (f i) (drop (i + 1) (tabulate n f)) k (sym (ap (λ (o : Outcome ℕ State). o .answer) e))),
-        subst (λ (z : State). Narrow (z .store)) (sym (ap (λ (o : Outcome ℕ State). o .left) e)) (listed-narrow s (f i) (h .narrow) thin),
-      )
-
--- ---- the steps
+use Rattle.turn.specs.Turn.{stepText}
+use Rattle.steps.specs.Run.{runSteps, written, writtenBy}
+use Rattle.inputs.specs.Limits.{Narrow}
+use Rattle.steps.proofs.Turns.{steps-done, step-turn, step-last}
+use Rattle.inputs.proofs.Narrow.{narrow-put}
+use Rattle.turn.proofs.Narrow.{step-narrow}
+use Rattle.inputs.proofs.Loops.{next-one, none-left}
 
 stepped-narrow : (m : Memory) (step : Step) → Narrow (m .state .store) → Narrow (addStep m step .left .state .store)
 stepped-narrow m step n = go (checkMemory m step)

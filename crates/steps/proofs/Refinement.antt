@@ -11,7 +11,8 @@ use Rattle.knownness.proofs.Runs.{headers-again, sound-again, plain-again, alik
 use Rattle.store.specs.Store.{state, emptyStore, Holds, roomOf}
 use Rattle.store.specs.Step.{memory}
 use Rattle.store.proofs.Held.{empty-holds}
-use Rattle.steps.specs.Run.{addInputs, afterInputs}
+use Rattle.inputs.specs.Inputs.{addInputs}
+use Rattle.steps.specs.Run.{afterInputs}
 use Rattle.steps.specs.Refinement.{Lent, runOn, Accepted, Plain, Refinement}
 use Rattle.steps.proofs.Plain.{Same, steps-plain}
 use Rattle.steps.proofs.Inputs.{Accepts, inputs-plain, accepts}

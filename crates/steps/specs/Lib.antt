@@ -1,3 +1,2 @@
 pub mod Run
-pub mod Limits
 pub mod Refinement

@@ -13,7 +13,8 @@ use Rattle.machine.specs.Machine.{machineRun}
 use Rattle.store.specs.Store.{Holds, state, emptyStore, roomOf}
 use Rattle.steplist.specs.Listing.{StepList}
 use Rattle.knownness.specs.Knownness.{Keeps, Refines, Cellwise, AllSound, NoFill, AllKeep, ExactRun}
-use Rattle.steps.specs.Run.{Ran, runList, addInputs, emptied}
+use Rattle.inputs.specs.Inputs.{addInputs}
+use Rattle.steps.specs.Run.{Ran, runList, emptied}
 
 abbrev pub list : List Vector → List Step → StepList
 list inputs ss = record { inputs = inputs; steps = ss }

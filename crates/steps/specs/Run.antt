@@ -2,16 +2,17 @@
 use mathlib.Core.List.{List, [], _∷_, _++_}
 use Prim.Native.Nat.{ℕ, suc}
 use Rattle.bit.specs.declared.LogicBit.{LogicBit}
-use Rattle.refusal.specs.Outcome.{Answer, Outcome, outcome, refuse}
+use Rattle.refusal.specs.Outcome.{Answer}
 use Rattle.refusal.specs.Outcome.Answer.{given, refused}
-use Rattle.words.specs.Planes.{Planes, planesOf}
-use Rattle.value.specs.Checks.{Vector}
+use Rattle.words.specs.Planes.{Planes}
 use Rattle.lines.specs.Buffer.{Buffer, put}
-use Rattle.output.specs.Output.{cellText, doneText, refusedText}
+use Rattle.output.specs.Output.{doneText, refusedText}
 use Rattle.ops.specs.declared.Step.{Step}
 use Rattle.machine.specs.Machine.{Ending, AtEnd, RefusedAt}
-use Rattle.store.specs.Store.{State, state, emptyStore, addInput}
+use Rattle.store.specs.Store.{state, emptyStore}
 use Rattle.store.specs.Step.{Memory, memory, addStep, stepVector}
+use Rattle.inputs.specs.Inputs.{addInputs}
+use Rattle.turn.specs.Turn.{stepText}
 use Rattle.steplist.specs.Listing.{StepList, whole}
 
 -- the memory that a run leaves, the text that it writes, and how it ends
@@ -38,11 +39,6 @@ refusedFirst m n = ended m 0 (RefusedAt n 0)
 
 -- ---- the steps
 
--- the lines of a step, behind k steps that were run
-abbrev pub stepText : Answer ℕ → ℕ → List LogicBit → List ℕ
-stepText (given n) k bits = cellText n bits
-stepText (refused n) k bits = refusedText n (suc k)
-
 -- a refused step is the run's last; the lines of the others come before those of the steps behind them
 abbrev pub afterStep : Answer ℕ → Memory → ℕ → List LogicBit → Ran → Ran
 afterStep (given n) left k bits rest = ran (rest .memory) (stepText (given n) k bits ++ rest .text) (rest .ending)
@@ -54,23 +50,6 @@ runSteps m k [] = ended m k AtEnd
 runSteps m k (s ∷ ss) =
     let left = addStep m s .left in
     afterStep (addStep m s .answer) left k (stepVector (m .state) s .bits) (runSteps left (suc k) ss)
-
--- ---- the inputs
-
--- an input of a list is handed over as its header and its planes
-abbrev pub addListed : State → Vector → Outcome ℕ State
-addListed s v = addInput s (v .header) (planesOf (v .bits))
-
-abbrev pub afterInput : Answer ℕ → State → Outcome Unit State → Outcome Unit State
-afterInput (given n) left rest = rest
-afterInput (refused n) left rest = refuse n left
-
--- all inputs in order, up to the first that is refused
-unfoldable pub addInputs : State → List Vector → Outcome Unit State
-addInputs s [] = outcome (given tt) s
-addInputs s (v ∷ vs) =
-    let left = addListed s v .left in
-    afterInput (addListed s v .answer) left (addInputs left vs)
 
 -- ---- a whole list
 

@@ -2,6 +2,7 @@
 use refusal::Verdict;
 use steplist::read_list;
 use store::Store;
+use turn::inner::put_refusal;
 ghost use mathlib.Core.Path.{_≡_};
 ghost use Rattle.words.specs.Planes.{lent};
 ghost use Rattle.lines.specs.Buffer.{buffer};
@@ -33,7 +34,7 @@ pub fn run(
     let verdict = a.verdict;
     match verdict {
         Verdict::Refused(r) => {
-            let n = inner::put_refusal(r, 0, out, 0);
+            let n = put_refusal(r, 0, out, 0);
             Ran {
                 store: Store::new(),
                 length: n,

@@ -5,7 +5,7 @@ use native.Mathlib.Omega.{arith}
 use borrow.Author.Needs.{needs}
 use mathlib.Core.List.{List}
 use lib.ListN.{length, length-replicate}
-use Rattle.store.specs.declared.Cell.{Cell}
+use Rattle.cells.specs.declared.Cell.{Cell}
 use Rattle.store.specs.declared.Store.{Store}
 use Rattle.store.specs.Store.{noCell, emptyStore}
 use Rattle.fields.specs.declared.Fields.{Fields}

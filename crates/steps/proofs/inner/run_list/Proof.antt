@@ -8,7 +8,8 @@ use Rattle.lines.specs.Buffer.{buffer}
 use Rattle.store.specs.Store.{State, state, emptyStore}
 use Rattle.store.specs.Step.{memory}
 use Rattle.steplist.specs.Answers.{listIn}
-use Rattle.steps.specs.Run.{addInputs, afterInputs, Written, written, writtenBy}
+use Rattle.inputs.specs.Inputs.{addInputs}
+use Rattle.steps.specs.Run.{afterInputs, Written, written, writtenBy}
 use borrow.Author.Needs.{needs}
 use Rattle.steps.proofs.inner.run_list.Statement.{statement}
 use Rattle.steps.proofs.inner.run_list.Tie as tie

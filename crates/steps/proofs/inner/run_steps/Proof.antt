@@ -15,7 +15,8 @@ use Rattle.output.specs.Output.{doneText}
 use Rattle.store.specs.Step.{Memory, memory, stepVector, addStep}
 use Rattle.steplist.specs.declared.StepList.{StepList}
 use Rattle.steplist.specs.Answers.{noStep}
-use Rattle.steps.specs.Run.{stepText, written}
+use Rattle.turn.specs.Turn.{stepText}
+use Rattle.steps.specs.Run.{written}
 use Rattle.steps.proofs.Loops.{Walked, walk-start, walk-more, walk-last, walk-done}
 use borrow.Author.Needs.{needs}
 use Rattle.steps.proofs.inner.run_steps.Statement.{statement}

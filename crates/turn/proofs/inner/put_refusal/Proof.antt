@@ -3,10 +3,10 @@ use mathlib.Core.Path.{_∙_, ap}
 use native.Mathlib.Omega.{arith}
 use Rattle.lines.specs.Buffer.{buffer, put}
 use Rattle.output.specs.Output.{refusedText}
-use Rattle.steps.proofs.Results.{number-small}
+use Rattle.turn.proofs.Results.{number-small}
 use borrow.Author.Needs.{needs}
-use Rattle.steps.proofs.inner.put_refusal.Statement.{statement}
-use Rattle.steps.proofs.inner.put_refusal.Tie as tie
+use Rattle.turn.proofs.inner.put_refusal.Statement.{statement}
+use Rattle.turn.proofs.inner.put_refusal.Tie as tie
 
 number-requires : tie.Need-number-requires
 number-requires c κs = search needs

@@ -17,8 +17,10 @@ use Rattle.ops.specs.declared.Step.{Step}
 use Rattle.store.specs.Store.{noCell}
 use Rattle.store.specs.Step.{Memory, checkMemory, stepVector, stepped, addStep}
 use Rattle.store.proofs.Steps.{step-admitted, step-storable, worked-front}
-use Rattle.steps.specs.Limits.{Narrow, Front, frontBits}
-use Rattle.steps.proofs.Narrow.{narrow-put, step-narrow}
+use Rattle.inputs.specs.Limits.{Narrow}
+use Rattle.turn.specs.Turn.{Front, frontBits}
+use Rattle.inputs.proofs.Narrow.{narrow-put}
+use Rattle.turn.proofs.Narrow.{step-narrow}
 
 pub number-small : (r : Refusal) → refusalNumber r < 100
 number-small TooWide = omega arith

@@ -1,9 +1,7 @@
--- What the parts of a run ask of a list that was read from a text, and of the store: document 01, "Step list", the limits.
+-- What adding the inputs asks of a list that was read from a text, and what it keeps of the store: document 01, "Step list", the limits.
 use Prim.Native.Nat.{ℕ, _-_, _≤_, _<_}
 use mathlib.Core.List.{List}
-use lib.ListN.{length, take, getD}
-use Rattle.bit.specs.declared.LogicBit.{LogicBit}
-use Rattle.words.specs.Planes.{Planes, wordCount, fromPlanes}
+use lib.ListN.{length, getD}
 use Rattle.value.specs.declared.Header.{Header}
 use Rattle.store.specs.declared.Store.{Store}
 use Rattle.store.specs.Store.{noCell}
@@ -18,15 +16,6 @@ Thin h = h .width ≤ 4096
 -- no cell is wider
 abbrev pub Narrow : Store → Type 0
 Narrow s = (j : ℕ) → Thin (getD (s .cells) j noCell .header)
-
--- planes at whose front a vector with the header h stands, and its bits
-pub record Front (h : Header) (p : Planes) : Type 0 where
-  pub thin : Thin h
-  pub value-long : wordCount (h .width) ≤ length (p .value)
-  pub unknown-long : wordCount (h .width) ≤ length (p .unknown)
-
-abbrev pub frontBits : ℕ → Planes → List LogicBit
-frontBits w p = fromPlanes w (take (wordCount w) (p .value)) (take (wordCount w) (p .unknown))
 
 -- the input's bits stand in the text s
 abbrev pub InputReadable : List ℕ → Input → Type 0

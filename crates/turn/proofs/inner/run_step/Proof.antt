@@ -13,11 +13,11 @@ use Rattle.output.specs.Output.{cellText, refusedText}
 use Rattle.output.proofs.Room.{refused-room}
 use Rattle.store.specs.Store.{state, cellAnswer}
 use Rattle.store.specs.Step.{Memory, memory, stepVector}
-use Rattle.steps.specs.Run.{stepText}
-use Rattle.steps.proofs.Results.{number-small, Shown, step-shown}
+use Rattle.turn.specs.Turn.{stepText}
+use Rattle.turn.proofs.Results.{number-small, Shown, step-shown}
 use borrow.Author.Needs.{needs}
-use Rattle.steps.proofs.inner.run_step.Statement.{statement}
-use Rattle.steps.proofs.inner.run_step.Tie as tie
+use Rattle.turn.proofs.inner.run_step.Statement.{statement}
+use Rattle.turn.proofs.inner.run_step.Tie as tie
 
 abbrev entered : tie.Start → Memory
 entered s =

@@ -14,13 +14,13 @@ use Rattle.store.specs.declared.CellAnswer.the-variants.{Added, Refused}
 use Rattle.store.specs.Store.{State, state, emptyStore, cellAnswer}
 use Rattle.steplist.specs.declared.StepList.{StepList}
 use Rattle.steplist.specs.Answers.{noInput, inputIn}
-use Rattle.steps.specs.Run.{addListed}
-use Rattle.steps.specs.Limits.{Thin}
-use Rattle.steps.proofs.Narrow.{narrow-new}
-use Rattle.steps.proofs.Loops.{Fed, feed-start, feed-more, feed-last, feed-done}
+use Rattle.inputs.specs.Inputs.{addListed}
+use Rattle.inputs.specs.Limits.{Thin}
+use Rattle.inputs.proofs.Narrow.{narrow-new}
+use Rattle.inputs.proofs.Loops.{Fed, feed-start, feed-more, feed-last, feed-done}
 use borrow.Author.Needs.{needs}
-use Rattle.steps.proofs.inner.add_inputs.Statement.{statement}
-use Rattle.steps.proofs.inner.add_inputs.Tie as tie
+use Rattle.inputs.proofs.inner.add_inputs.Statement.{statement}
+use Rattle.inputs.proofs.inner.add_inputs.Tie as tie
 
 abbrev input : List ℕ → StepList → ℕ → Vector
 input t l i = inputIn t (getD (l .inputs) i noInput)

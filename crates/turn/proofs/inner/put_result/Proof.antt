@@ -9,10 +9,10 @@ use Rattle.lines.proofs.Put.{length-planes, place-of}
 use Rattle.output.specs.Output.{cellText}
 use Rattle.output.proofs.Room.{cell-room}
 use Rattle.store.specs.Store.{noCell}
-use Rattle.steps.specs.Limits.{frontBits}
+use Rattle.turn.specs.Turn.{frontBits}
 use borrow.Author.Needs.{needs}
-use Rattle.steps.proofs.inner.put_result.Statement.{statement}
-use Rattle.steps.proofs.inner.put_result.Tie as tie
+use Rattle.turn.proofs.inner.put_result.Statement.{statement}
+use Rattle.turn.proofs.inner.put_result.Tie as tie
 
 mul-cell : tie.Need-mul-cell
 mul-cell c = search needs

@@ -3,8 +3,8 @@ use mathlib.Core.Path.{_∙_, ap}
 use Rattle.words.specs.Planes.{lent}
 use Rattle.store.specs.Store.{state, addInput}
 use borrow.Author.Needs.{needs}
-use Rattle.steps.proofs.inner.add_filled.Statement.{statement}
-use Rattle.steps.proofs.inner.add_filled.Tie as tie
+use Rattle.inputs.proofs.inner.add_filled.Statement.{statement}
+use Rattle.inputs.proofs.inner.add_filled.Tie as tie
 
 fill-planes-requires : tie.Need-fill-planes-requires
 fill-planes-requires c κs = search needs

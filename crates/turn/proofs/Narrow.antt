@@ -1,10 +1,8 @@
--- In a run no cell is wider than the widest input, which is at most 4,096 bits.
---     narrow-new, narrow-put        an empty store, and one cell more
---     step-narrow     the result of a step on narrow cells
+-- The result of a step on cells that are no wider than an input may be is no wider.
 use mathlib.Core.List.{List, [], _∷_, map}
 use Prim.Native.Nat.{ℕ, zero, suc}
 use native.Mathlib.Omega.{arith}
-use lib.ListN.{take, set, getD, replicate}
+use lib.ListN.{take, getD}
 use Rattle.words.specs.Planes.{Planes}
 use Rattle.value.specs.declared.Header.{Header}
 use Rattle.ops.specs.declared.Kind.{Kind}
@@ -14,29 +12,9 @@ use Rattle.ops.specs.Ops.{kindOf, kindHeader}
 use Rattle.machine.specs.Machine.{cellAt}
 use Rattle.cells.specs.declared.Cell.{Cell}
 use Rattle.cells.specs.Cells.{cellVector}
-use Rattle.store.specs.declared.Store.{Store}
-use Rattle.store.specs.Store.{State, noCell, emptyStore, cellsOf, putCell}
+use Rattle.store.specs.Store.{State, noCell, cellsOf}
 use Rattle.store.specs.Step.{stepVector}
-use Rattle.steps.specs.Limits.{Thin, Narrow}
-
-replicated : (n j : ℕ) → Thin (getD (replicate n noCell) j noCell .header)
-replicated zero j = omega arith
-replicated (suc n) zero = omega arith
-replicated (suc n) (suc j) = replicated n j
-
-pub narrow-new : Narrow emptyStore
-unfolding emptyStore
-narrow-new = replicated 320
-
-set-thin : (cs : List Cell) (i : ℕ) (c : Cell) → ((j : ℕ) → Thin (getD cs j noCell .header)) → Thin (c .header) → (j : ℕ) → Thin (getD (set cs i c) j noCell .header)
-set-thin [] i c n h j = n j
-set-thin (b ∷ cs) zero c n h zero = h
-set-thin (b ∷ cs) zero c n h (suc j) = n (suc j)
-set-thin (b ∷ cs) (suc i) c n h zero = n 0
-set-thin (b ∷ cs) (suc i) c n h (suc j) = set-thin cs i c (λ k. n (suc k)) h j
-
-pub narrow-put : (h : Header) (s : Store) → Narrow s → Thin h → Narrow (putCell h s)
-narrow-put h s n t = set-thin (s .cells) (s .count) (record { start = Rattle.store.specs.Store.nextWord s; header = h }) n t
+use Rattle.inputs.specs.Limits.{Thin, Narrow}
 
 cells-thin : (a : Planes) (cs : List Cell) (n : ℕ) → ((j : ℕ) → Thin (getD cs j noCell .header)) → (j : ℕ) → Thin (cellAt (map (cellVector a) (take n cs)) j .header)
 cells-thin a [] zero t j = omega arith

@@ -1,0 +1,102 @@
+// One input of a list, and all of them, added to an empty store. These ask their caller for a list that was read from the text.
+use crate::Fed;
+use charplanes::inner::fill_planes;
+use refusal::Verdict;
+use steplist::Input;
+use steplist::StepList;
+use store::CellAnswer;
+use store::Store;
+use store::Stored;
+use words::word_count;
+ghost use mathlib.Core.Path.{_≡_};
+ghost use Prim.Native.Nat.{_<_};
+ghost use lib.ListN.{length};
+ghost use Rattle.refusal.specs.Outcome.{outcome, verdict};
+ghost use Rattle.words.specs.Planes.{wordCount, lent};
+ghost use Rattle.store.specs.Store.{state, emptyStore, cellAnswer};
+ghost use Rattle.steplist.specs.Answers.{inputIn, listIn};
+ghost use Rattle.inputs.specs.Inputs.{addListed, addInputs};
+ghost use Rattle.inputs.specs.Limits.{Narrow, InputReadable, Readable};
+
+// Adds an input of the list, its planes filled from its characters into two lent planes.
+fn add_filled(
+    s: Store,
+    x: Input,
+    text: &[u8],
+    value: &mut [u64],
+    unknown: &mut [u64],
+    arena_value: &mut [u64],
+    arena_unknown: &mut [u64],
+) -> Stored
+    requires { ⌜ InputReadable (now text) x ⌝ }
+    requires { ⌜ (length (now value) ≡ wordCount (x .header .width)) × (length (now unknown) ≡ wordCount (x .header .width)) ⌝ }
+    ensures { λ r. ⌜ outcome (cellAnswer (r .answer)) (state (r .store) (lent (now («arena_value» .exit)) (now («arena_unknown» .exit)))) ≡ addListed (state s (lent (now («arena_value» .entry)) (now («arena_unknown» .entry)))) (inputIn (now (text .entry)) x) ⌝ }
+{
+    let h = x.header;
+    let place = x.place;
+    let width = h.width;
+    fill_planes(text, place, width, value, unknown);
+    s.add_input(h, value, unknown, arena_value, arena_unknown)
+}
+
+// Adds an input of the list; its planes have at most 64 words.
+fn add_listed(
+    s: Store,
+    x: Input,
+    text: &[u8],
+    arena_value: &mut [u64],
+    arena_unknown: &mut [u64],
+) -> Stored
+    requires { ⌜ InputReadable (now text) x ⌝ }
+    ensures { λ r. ⌜ outcome (cellAnswer (r .answer)) (state (r .store) (lent (now («arena_value» .exit)) (now («arena_unknown» .exit)))) ≡ addListed (state s (lent (now («arena_value» .entry)) (now («arena_unknown» .entry)))) (inputIn (now (text .entry)) x) ⌝ }
+{
+    let h = x.header;
+    let n = word_count(h.width);
+    let mut value = [0u64; 64];
+    let mut unknown = [0u64; 64];
+    add_filled(
+        s,
+        x,
+        text,
+        &mut value[0..n],
+        &mut unknown[0..n],
+        arena_value,
+        arena_unknown,
+    )
+}
+
+// Adds the inputs of the list to an empty store, up to the first that is refused.
+pub fn add_inputs(
+    list: StepList,
+    text: &[u8],
+    arena_value: &mut [u64],
+    arena_unknown: &mut [u64],
+) -> Fed
+    requires { ⌜ Readable (now text) list ⌝ }
+    ensures { λ r. ⌜ outcome (verdict (r .verdict)) (state (r .store) (lent (now («arena_value» .exit)) (now («arena_unknown» .exit)))) ≡ addInputs (state emptyStore (lent (now («arena_value» .entry)) (now («arena_unknown» .entry)))) (listIn (now (text .entry)) list .inputs) ⌝ }
+    ensures { λ r. ⌜ Narrow (r .store) ⌝ }
+{
+    let n = list.input_count;
+    let mut s = Store::new();
+    let mut i = 0;
+    while i < n {
+        let x = list.inputs[i];
+        let t = add_listed(s, x, text, arena_value, arena_unknown);
+        s = t.store;
+        let answer = t.answer;
+        match answer {
+            CellAnswer::Refused(r) => {
+                return Fed {
+                    verdict: Verdict::Refused(r),
+                    store: s,
+                };
+            }
+            CellAnswer::Added(_) => {}
+        }
+        i += 1;
+    }
+    Fed {
+        verdict: Verdict::Accepted,
+        store: s,
+    }
+}

@@ -1,0 +1,11 @@
+// The inputs of a step list, added to an empty store.
+use refusal::Verdict;
+use store::Store;
+
+pub mod inner;
+
+// What adding the inputs of a list answers, and the store that it leaves.
+pub struct Fed {
+    pub verdict: Verdict,
+    pub store: Store,
+}

@@ -1,0 +1,28 @@
+-- Document 01, "Step list": the lines of a step, and where its result stands: at the front of the scratch planes.
+use Prim.Native.Nat.{ℕ, _≤_}
+use mathlib.Core.List.{List}
+use lib.ListN.{length, take}
+use Rattle.bit.specs.declared.LogicBit.{LogicBit}
+use Rattle.words.specs.Planes.{Planes, wordCount, fromPlanes}
+use Rattle.value.specs.declared.Header.{Header}
+use mathlib.Core.List.{List}
+use Prim.Native.Nat.{ℕ, suc}
+use Rattle.refusal.specs.Outcome.{Answer}
+use Rattle.refusal.specs.Outcome.Answer.{given, refused}
+use Rattle.words.specs.Planes.{Planes}
+use Rattle.output.specs.Output.{cellText, refusedText}
+use Rattle.inputs.specs.Limits.{Thin}
+
+-- the lines of a step, behind k steps that were run
+abbrev pub stepText : Answer ℕ → ℕ → List LogicBit → List ℕ
+stepText (given n) k bits = cellText n bits
+stepText (refused n) k bits = refusedText n (suc k)
+
+-- planes at whose front a vector with the header h stands, and its bits
+pub record Front (h : Header) (p : Planes) : Type 0 where
+  pub thin : Thin h
+  pub value-long : wordCount (h .width) ≤ length (p .value)
+  pub unknown-long : wordCount (h .width) ≤ length (p .unknown)
+
+abbrev pub frontBits : ℕ → Planes → List LogicBit
+frontBits w p = fromPlanes w (take (wordCount w) (p .value)) (take (wordCount w) (p .unknown))
