@@ -11,7 +11,6 @@ The status is 0 only if none survived."""
 import os
 import random
 import re
-import shutil
 import subprocess
 import sys
 import tempfile
@@ -120,7 +119,10 @@ def main(words):
     home = os.getcwd()
     counts = {}
     with tempfile.TemporaryDirectory() as room:
-        subprocess.run(["cp", "-a", "crates", "crates.txt", "target", room], check=True)
+        subprocess.run(["cp", "-a", "crates", "crates.txt", room], check=True)
+        os.mkdir(os.path.join(room, "target"))
+        for part in ("rlib", "stamp"):
+            subprocess.run(["cp", "-a", f"target/{part}", os.path.join(room, "target")], check=True)
         os.chdir(room)
         print("| crate | place | was | becomes | verdict |\n|---|---|---|---|---|")
         for name in names:
@@ -135,7 +137,6 @@ def main(words):
                 place = os.path.relpath(path, f"crates/{name}")
                 print(f"| {name} | {place}:{i + 1} {where} | `{was.strip()}` | `{text.strip()}` | {said} |", flush=True)
         os.chdir(home)
-        shutil.rmtree(os.path.join(room, "target"), ignore_errors=True)
     print(", ".join(f"{n} {what}" for what, n in sorted(counts.items())))
     return 1 if counts.get("SURVIVED") else 0
 
