@@ -4,7 +4,8 @@ use crate::reduce::{bit, of_operands};
 use crate::{raw, Header, LogicBit, Operand, Refusal};
 
 /// 0 if some place holds two different known bits, else x if an operand has an unknown bit, else 1; fills are stretched first. Beside a real a
-/// vector is the number of its low 64 bits, unknown ones taken as 0, and the two are compared as IEEE 754 does.
+/// vector is the number of its low 64 bits, unknown ones taken as 0, in two's complement if it is signed, rounded to nearest, ties to even; a fill
+/// is stretched to 64 bits or its width, if that is larger. The two are then compared as IEEE 754 does.
 pub fn is_equal(a: Operand, av: &[u64], au: &[u64], b: Operand, bv: &[u64], bu: &[u64]) -> Result<LogicBit, Refusal> {
     match (a, b) {
         (Operand::Vector(a), Operand::Vector(b)) => of_vectors(raw::vowherunga_equal_vectors, (a, av, au), (b, bv, bu)),

@@ -3,7 +3,8 @@
 //! [`word_count`](crate::planes::word_count) words of the width is refused by 5, and nothing is written.
 use crate::{raw, Refusal};
 
-/// A vector's width and marks; its planes come beside it. A fill takes the width of what stands beside it: all its bits become its bit 0.
+/// A vector's width and marks; its planes come beside it. In and, or, xor, equality and the case forms a fill is stretched: at the larger width all
+/// its bits become its bit 0. Elsewhere, in merge and wildcard equality too, it is its own bits.
 #[repr(C)]
 #[derive(Clone, Copy, Debug, PartialEq, Eq, Hash)]
 pub struct Header {
