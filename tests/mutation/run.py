@@ -115,7 +115,6 @@ def main(words):
     seed = int(words.pop(words.index("--seed") + 1)) if "--seed" in words else 1
     uses = crates()
     names = [w for w in words if not w.startswith("--")] or list(uses)
-    chance = random.Random(seed)
     home = os.getcwd()
     counts = {}
     with tempfile.TemporaryDirectory() as room:
@@ -126,6 +125,8 @@ def main(words):
         os.chdir(room)
         print("| crate | place | was | becomes | verdict |\n|---|---|---|---|---|")
         for name in names:
+            # by crate, so that a run over some of them draws the same edits
+            chance = random.Random(f"{seed} {name}")
             for path, where, i, text in list(drawn(name, each, chance)):
                 lines = open(path).read().split("\n")
                 was, lines[i] = lines[i], text
