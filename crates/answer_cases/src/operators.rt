@@ -1,4 +1,6 @@
 // The calls of operators whose answer is a bit, by their numbers in `replay`.
+use agreement::Field;
+use agreement::is_bit;
 use coded::BitResult;
 use ffi_answers::vowherunga_case_eq;
 use ffi_answers::vowherunga_casex_eq;
@@ -11,11 +13,9 @@ use ffi_answers::vowherunga_reduce_and;
 use ffi_answers::vowherunga_reduce_or;
 use ffi_answers::vowherunga_reduce_xor;
 use ffi_answers::vowherunga_wildcard_eq;
-use replay::Field;
 use replay::inner::call_of;
 use replay::inner::field;
 use replay::inner::plain;
-use replay::is_bit;
 use value::Header;
 
 // An answer bit of one operand.

@@ -1,4 +1,5 @@
 // The calls that make a vector, by their numbers in `replay`.
+use agreement::is_vector;
 use coded::HeaderResult;
 use ffi::bits::vowherunga_from_u64;
 use ffi::bits::vowherunga_new;
@@ -8,7 +9,6 @@ use replay::inner::are_left;
 use replay::inner::call_of;
 use replay::inner::field;
 use replay::inner::plain;
-use replay::is_vector;
 
 fn make(
     call: usize,

@@ -1,6 +1,4 @@
 // The readers of a table. What they promise is what a program needs to go on: places in the text and in the planes that are lent.
-use crate::Field;
-use crate::holds;
 use crate::text::bare;
 use crate::text::decimal;
 use crate::text::digits;
@@ -13,6 +11,8 @@ use crate::text::part;
 use crate::text::real;
 use crate::text::until;
 use crate::text::word;
+use agreement::Field;
+use agreement::holds;
 use libc::STDOUT_FILENO;
 use words::inner::least;
 ghost use mathlib.Core.Path.{_≡_};
@@ -21,7 +21,8 @@ ghost use Prim.Native.Nat.{_≤_};
 ghost use lib.Dec.{ltb};
 ghost use lib.ListN.{length};
 ghost use Rattle.io.specs.Counts.{Counts};
-ghost use Rattle.replay.specs.Holds.{TellsHeld, holdsFrom};
+ghost use Rattle.agreement.specs.Holds.{holdsFrom};
+ghost use Rattle.replay.specs.Left.{TellsHeld};
 
 // The table in a file, if it is shorter than the buffer, and else an empty one.
 pub fn table(path: &[u8], s: &mut [u8]) -> usize

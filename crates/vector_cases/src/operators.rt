@@ -1,4 +1,5 @@
 // The calls of operators whose result is a vector, by their numbers in `replay`.
+use agreement::is_vector;
 use coded::HeaderResult;
 use ffi::vectors::vowherunga_bitwise_and;
 use ffi::vectors::vowherunga_bitwise_not;
@@ -9,7 +10,6 @@ use replay::inner::are_left;
 use replay::inner::call_of;
 use replay::inner::field;
 use replay::inner::plain;
-use replay::is_vector;
 use value::Header;
 
 // A vector of two operands, or of the first.

@@ -1,7 +1,7 @@
 -- By the first test.
 use borrow.Author.Tests.{eq-eqb, ne-eqb}
-use Rattle.replay.proofs.same_code.Statement.{statement}
-use Rattle.replay.proofs.same_code.Tie as tie
+use Rattle.agreement.proofs.same_code.Statement.{statement}
+use Rattle.agreement.proofs.same_code.Tie as tie
 
 returns : tie.Need-returns
 returns c = simp (eq-eqb _ _ (c .before .if1 .taken))

@@ -7,7 +7,7 @@ use native.Mathlib.Numerals.{add-one}
 use lib.ListN.{length, drop, getD, drop-of-length-le}
 use lib.Seq.{drop-cons}
 use borrow.Author.Tests.{eq-eqb, ne-eqb}
-use Rattle.replay.specs.Holds.{holdsFrom}
+use Rattle.agreement.specs.Holds.{holdsFrom}
 
 module _ (plane words : List ℕ) (k : ℕ) where
   pub done : length plane ≤ k → holdsFrom k (drop k plane) words ≡ true

@@ -1,9 +1,9 @@
 -- By what the two calls give.
 use mathlib.Core.Path.{ap, _∙_}
-use Rattle.replay.specs.Answers.{answered}
+use Rattle.agreement.specs.Answers.{answered}
 use borrow.Author.Needs.{needs}
-use Rattle.replay.proofs.is_bit.Statement.{statement}
-use Rattle.replay.proofs.is_bit.Tie as tie
+use Rattle.agreement.proofs.is_bit.Statement.{statement}
+use Rattle.agreement.proofs.is_bit.Tie as tie
 
 same-code-requires : tie.Need-same-code-requires
 same-code-requires c κs = search needs

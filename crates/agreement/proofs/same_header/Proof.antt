@@ -2,8 +2,8 @@
 use mathlib.Core.Bool.{Bool, true, _&&_}
 use mathlib.Core.Path.{_≡_}
 use borrow.Author.Tests.{eq-eqb, ne-eqb}
-use Rattle.replay.proofs.same_header.Statement.{statement}
-use Rattle.replay.proofs.same_header.Tie as tie
+use Rattle.agreement.proofs.same_header.Statement.{statement}
+use Rattle.agreement.proofs.same_header.Tie as tie
 
 last : (a b c : Bool) → a ≡ true → b ≡ true → c ≡ (a && (b && c))
 last a b c p q = simp (p, q)

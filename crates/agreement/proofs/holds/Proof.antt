@@ -4,10 +4,10 @@ use Prim.Native.Nat.{_≤_, _-_}
 use native.Mathlib.Omega.{arith}
 use lib.ListN.{length, drop}
 use borrow.Author.Needs.{needs}
-use Rattle.replay.specs.Holds.{holdsFrom}
-use Rattle.replay.proofs.Turns.{done, same, other}
-use Rattle.replay.proofs.holds.Statement.{statement}
-use Rattle.replay.proofs.holds.Tie as tie
+use Rattle.agreement.specs.Holds.{holdsFrom}
+use Rattle.agreement.proofs.Turns.{done, same, other}
+use Rattle.agreement.proofs.holds.Statement.{statement}
+use Rattle.agreement.proofs.holds.Tie as tie
 
 abbrev Inv-loop : tie.InvT-loop
 Inv-loop plane words k₀ k = (k ≤ length plane) × (holdsFrom 0 plane words ≡ holdsFrom k (drop k plane) words)

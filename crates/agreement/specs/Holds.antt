@@ -1,7 +1,6 @@
 -- When a plane is as a line of a table says, which leaves out leading zeros.
 use Prim.Native.Nat.{ℕ, suc}
 use mathlib.Core.Bool.{Bool, true, _&&_}
-use mathlib.Core.Path.{_≡_}
 use mathlib.Core.List.{List, [], _∷_}
 use lib.Dec.{eqb}
 use lib.ListN.{getD}
@@ -10,7 +9,3 @@ use lib.ListN.{getD}
 unfoldable pub holdsFrom : ℕ → List ℕ → List ℕ → Bool
 holdsFrom k [] words = true
 holdsFrom k (p ∷ plane) words = eqb p (getD words k 0) && holdsFrom (suc k) plane words
-
--- that a result tells whether two planes have two lists of words
-abbrev pub TellsHeld : Bool → List ℕ → List ℕ → Type 0
-TellsHeld r value unknown = (v : List ℕ) × (u : List ℕ) × (r ≡ (holdsFrom 0 value v && holdsFrom 0 unknown u))

@@ -2,8 +2,8 @@
 use mathlib.Core.Path.{sym}
 use lib.ListN.{List·getD-eq-default}
 use borrow.Author.Needs.{needs}
-use Rattle.replay.proofs.word_at.Statement.{statement}
-use Rattle.replay.proofs.word_at.Tie as tie
+use Rattle.agreement.proofs.word_at.Statement.{statement}
+use Rattle.agreement.proofs.word_at.Tie as tie
 
 mul-result : tie.Need-mul-result
 mul-result c = search needs

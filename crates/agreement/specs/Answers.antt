@@ -5,7 +5,7 @@ use lib.Dec.{eqb}
 use Rattle.words.specs.declared.Word.{Word}
 use Rattle.value.specs.declared.Header.{Header}
 use Rattle.coded.specs.declared.HeaderResult.{HeaderResult}
-use Rattle.replay.specs.declared.Field.{Field}
+use Rattle.agreement.specs.declared.Field.{Field}
 
 -- a refusal by its number; where there is none, 0, no refusal and what else was compared
 abbrev pub answered : Field → ℕ → Bool → Bool

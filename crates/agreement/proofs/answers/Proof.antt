@@ -1,7 +1,7 @@
 -- By the two tests on the way to each return.
 use borrow.Author.Tests.{eq-eqb, ne-eqb}
-use Rattle.replay.proofs.answers.Statement.{statement}
-use Rattle.replay.proofs.answers.Tie as tie
+use Rattle.agreement.proofs.answers.Statement.{statement}
+use Rattle.agreement.proofs.answers.Tie as tie
 
 returns : tie.Need-returns
 returns c = simp (eq-eqb _ _ (c .before .if1 .taken), c .if2 .taken)

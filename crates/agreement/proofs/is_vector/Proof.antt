@@ -1,9 +1,9 @@
 -- By what the two calls give.
 use mathlib.Core.Path.{ap, _∙_}
-use Rattle.replay.specs.Answers.{answered}
+use Rattle.agreement.specs.Answers.{answered}
 use borrow.Author.Needs.{needs}
-use Rattle.replay.proofs.is_vector.Statement.{statement}
-use Rattle.replay.proofs.is_vector.Tie as tie
+use Rattle.agreement.proofs.is_vector.Statement.{statement}
+use Rattle.agreement.proofs.is_vector.Tie as tie
 
 same-header-requires : tie.Need-same-header-requires
 same-header-requires c κs = search needs

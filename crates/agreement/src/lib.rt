@@ -1,0 +1,100 @@
+// When the answer that a line of a table tells is what a call gave: a field of a line as it was read, compared with a bit, a vector's header or
+// planes.
+use coded::BitResult;
+use coded::HeaderResult;
+use value::Header;
+use words::Word;
+ghost use mathlib.Core.Path.{_≡_};
+ghost use lib.ListN.{getD};
+ghost use Rattle.agreement.specs.Answers.{answered, sameCode, sameHeader};
+ghost use Rattle.agreement.specs.Holds.{holdsFrom};
+
+// A field of a line, read in each way that its text can be meant.
+pub struct Field {
+    pub is_refusal: bool,
+    pub is_real: bool,
+    // The number, or that of the refusal.
+    pub number: u64,
+    pub real: f64,
+    // The lowest 64 bits.
+    pub word: Word,
+    pub header: Header,
+    // How many words of each lent plane the vector takes.
+    pub value: usize,
+    pub unknown: usize,
+}
+
+// Whether a line's answer is that of a call: the number of its refusal, or no refusal and what else was compared.
+pub fn answers(f: Field, refusal: u8, same: bool) -> bool
+    ensures { λ r. ⌜ r ≡ answered f refusal same ⌝ }
+{
+    if refusal == 0 {
+        return if f.is_refusal { false } else { same };
+    }
+    if f.is_refusal {
+        f.number == refusal as u64
+    } else {
+        false
+    }
+}
+
+fn same_code(w: Word, code: u8) -> bool
+    ensures { λ r. ⌜ r ≡ sameCode w code ⌝ }
+{
+    if w.value == code as u64 % 2 {
+        w.unknown == code as u64 / 2
+    } else {
+        false
+    }
+}
+
+// Whether a line's answer is the bit that a call gave.
+pub fn is_bit(f: Field, r: BitResult) -> bool
+    ensures { λ is. ⌜ is ≡ answered f (r .refusal) (sameCode (f .word) (r .bit)) ⌝ }
+{
+    answers(f, r.refusal, same_code(f.word, r.bit))
+}
+
+fn same_header(h: Header, r: HeaderResult) -> bool
+    ensures { λ same. ⌜ same ≡ sameHeader h r ⌝ }
+{
+    if h.width != r.width {
+        return false;
+    }
+    if h.is_signed == r.is_signed {
+        h.is_fill == r.is_fill
+    } else {
+        false
+    }
+}
+
+// Whether a line's answer is a vector with the header that a call gave.
+pub fn is_vector(f: Field, r: HeaderResult) -> bool
+    ensures { λ is. ⌜ is ≡ answered f (r .refusal) (sameHeader (f .header) r) ⌝ }
+{
+    answers(f, r.refusal, same_header(f.header, r))
+}
+
+fn word_at(words: &[u64], k: usize) -> u64
+    ensures { λ r. ⌜ r ≡ getD (now (words .entry)) k 0 ⌝ }
+{
+    if k < words.len() {
+        return words[k];
+    }
+    0
+}
+
+// Whether a plane has those words, and zeros behind them.
+pub fn holds(plane: &[u64], words: &[u64]) -> bool
+    ensures { λ r. ⌜ r ≡ holdsFrom 0 (now (plane .entry)) (now (words .entry)) ⌝ }
+{
+    let mut k = 0;
+    while k < plane.len() {
+        let word = word_at(words, k);
+        if plane[k] != word {
+            return false;
+        }
+        k += 1;
+    }
+    true
+}
