@@ -57,18 +57,15 @@ for n in 4095 4096; do
     } >want
     gives "an input of $n bits" list want
 done
-{ begin 1 1 && input u "$(digits 0 4097)" && step not 0 0 0; } >list
-gives 'an input of 4097 bits' list format
 
 # every cell is filled: each step is the xor of an input and the cell before
-cells() { # INPUTS STEPS
-    awk -v inputs="$1" -v steps="$2" 'BEGIN {
-        printf "inputs=%d\nsteps=%d\n", inputs, steps
-        for (k = 0; k < inputs; k++) printf "width=1\nkind=u\nbits=%d\n", k % 3 == 1
-        for (k = 0; k < steps; k++) printf "op=xor\na=%d\nb=%d\nc=0\n", k % inputs, inputs + k - 1
+{
+    begin 64 256
+    awk 'BEGIN {
+        for (k = 0; k < 64; k++) printf "width=1\nkind=u\nbits=%d\n", k % 3 == 1
+        for (k = 0; k < 256; k++) printf "op=xor\na=%d\nb=%d\nc=0\n", k % 64, 63 + k
     }'
-}
-cells 64 256 >list
+} >list
 awk 'BEGIN {
     for (k = 0; k < 64; k++) bit[k] = k % 3 == 1
     for (k = 0; k < 256; k++) {
@@ -78,10 +75,6 @@ awk 'BEGIN {
     print "done=256"
 }' >want
 gives '64 inputs and 256 steps' list want
-cells 65 256 >list
-gives '65 inputs' list format
-cells 64 257 >list
-gives '257 steps' list format
 
 # not upon not of zeros, of a width, until the 2,048 words of the arenas are full
 nots() { # WIDTH STEPS
