@@ -54,25 +54,27 @@ impl Narrow {
         self.bits
     }
 
-    /// The larger of two widths, without marks.
+    /// Whether there is no fill that an operator may stretch and no sign that it may extend by: then its word form, which sees neither widths
+    /// nor marks, gives its answer. One test for all operators of two; which of them stretch or extend is told in the crate `extension` alone.
     #[inline(always)]
-    fn joint_header(self, other: Narrow) -> Header {
-        Header {
-            width: self.header.width.max(other.header.width),
-            is_signed: false,
-            is_fill: false,
-        }
+    fn is_plain_beside(self, other: Narrow) -> bool {
+        let (a, b) = (self.header, other.header);
+        !(a.is_fill | b.is_fill) && !(a.is_signed & b.is_signed && a.width != b.width)
     }
 
-    /// An operator by its word form, which stretches no fill; a fill goes through planes of one word. Either way the result has the joint header.
+    /// An operator by its word form or else through planes of one word. The result has the larger width and is no fill.
     #[inline(always)]
-    fn join(self, other: Narrow, by_word: raw::WordOfTwo, by_planes: OfPlanes) -> Narrow {
-        let bits = match self.header.is_fill || other.header.is_fill {
-            false => unsafe { by_word(self.bits, other.bits) },
-            true => by_planes_of_one_word(by_planes, (self.header, self.bits), (other.header, other.bits)),
+    fn join(self, other: Narrow, is_signed: bool, by_word: raw::WordOfTwo, by_planes: OfPlanes) -> Narrow {
+        let bits = match self.is_plain_beside(other) {
+            true => unsafe { by_word(self.bits, other.bits) },
+            false => by_planes_of_one_word(by_planes, (self.header, self.bits), (other.header, other.bits)),
         };
         Narrow {
-            header: self.joint_header(other),
+            header: Header {
+                width: self.header.width.max(other.header.width),
+                is_signed,
+                is_fill: false,
+            },
             bits,
         }
     }
@@ -80,31 +82,26 @@ impl Narrow {
     /// [`bitwise::bitwise_and`]
     #[inline]
     pub fn bitwise_and(self, other: Narrow) -> Narrow {
-        self.join(other, raw::vowherunga_and_word, bitwise::bitwise_and)
+        self.join(other, false, raw::vowherunga_and_word, bitwise::bitwise_and)
     }
 
     /// [`bitwise::bitwise_or`]
     #[inline]
     pub fn bitwise_or(self, other: Narrow) -> Narrow {
-        self.join(other, raw::vowherunga_or_word, bitwise::bitwise_or)
+        self.join(other, false, raw::vowherunga_or_word, bitwise::bitwise_or)
     }
 
     /// [`bitwise::bitwise_xor`]
     #[inline]
     pub fn bitwise_xor(self, other: Narrow) -> Narrow {
-        self.join(other, raw::vowherunga_xor_word, bitwise::bitwise_xor)
+        self.join(other, false, raw::vowherunga_xor_word, bitwise::bitwise_xor)
     }
 
     /// [`bitwise::merge_unknown`]
     #[inline]
     pub fn merge_unknown(self, other: Narrow) -> Narrow {
-        Narrow {
-            header: Header {
-                is_signed: self.header.is_signed && other.header.is_signed,
-                ..self.joint_header(other)
-            },
-            bits: unsafe { raw::vowherunga_merge_word(self.bits, other.bits) },
-        }
+        let is_signed = self.header.is_signed & other.header.is_signed;
+        self.join(other, is_signed, raw::vowherunga_merge_word, bitwise::merge_unknown)
     }
 
     /// [`bitwise::bitwise_not`]
@@ -143,33 +140,19 @@ impl Narrow {
         Truth::of_bit(LogicBit::from_code(unsafe { raw::vowherunga_truth_word(self.bits) }))
     }
 
-    /// Whether the shorter one is extended by its top bit.
+    /// A comparison by its word form or else through planes of one word.
     #[inline(always)]
-    fn extends_sign(self, other: Narrow) -> bool {
-        let (a, b) = (self.header, other.header);
-        a.is_signed && b.is_signed && a.width != b.width
-    }
-
-    /// A comparison by its word form, which extends by 0 and stretches no fill, or else through planes of one word.
-    #[inline(always)]
-    fn compare(self, other: Narrow, is_plain: bool, by_word: raw::CodeOfTwo, by_planes: ComparesPlanes) -> LogicBit {
-        match is_plain {
+    fn compare(self, other: Narrow, by_word: raw::CodeOfTwo, by_planes: ComparesPlanes) -> LogicBit {
+        match self.is_plain_beside(other) {
             true => LogicBit::from_code(unsafe { by_word(self.bits, other.bits) }),
             false => compare_planes_of_one_word(by_planes, (self.header, self.bits), (other.header, other.bits)),
         }
     }
 
-    /// A comparison that stretches fills.
-    #[inline(always)]
-    fn compare_stretched(self, other: Narrow, by_word: raw::CodeOfTwo, by_planes: ComparesPlanes) -> LogicBit {
-        let has_fill = self.header.is_fill || other.header.is_fill;
-        self.compare(other, !has_fill && !self.extends_sign(other), by_word, by_planes)
-    }
-
     /// [`compare::is_equal`]
     #[inline]
     pub fn is_equal(self, other: Narrow) -> LogicBit {
-        self.compare_stretched(other, raw::vowherunga_is_equal_word, |a, av, au, b, bv, bu| {
+        self.compare(other, raw::vowherunga_is_equal_word, |a, av, au, b, bv, bu| {
             compare::is_equal(Operand::Vector(a), av, au, Operand::Vector(b), bv, bu)
         })
     }
@@ -177,25 +160,24 @@ impl Narrow {
     /// [`compare::case_eq`]
     #[inline]
     pub fn case_eq(self, other: Narrow) -> LogicBit {
-        self.compare_stretched(other, raw::vowherunga_case_eq_word, compare::case_eq)
+        self.compare(other, raw::vowherunga_case_eq_word, compare::case_eq)
     }
 
     /// [`compare::casez_eq`]
     #[inline]
     pub fn casez_eq(self, other: Narrow) -> LogicBit {
-        self.compare_stretched(other, raw::vowherunga_casez_eq_word, compare::casez_eq)
+        self.compare(other, raw::vowherunga_casez_eq_word, compare::casez_eq)
     }
 
     /// [`compare::casex_eq`]
     #[inline]
     pub fn casex_eq(self, other: Narrow) -> LogicBit {
-        self.compare_stretched(other, raw::vowherunga_casex_eq_word, compare::casex_eq)
+        self.compare(other, raw::vowherunga_casex_eq_word, compare::casex_eq)
     }
 
     /// [`compare::wildcard_eq`]
     #[inline]
     pub fn wildcard_eq(self, other: Narrow) -> LogicBit {
-        let is_plain = !self.extends_sign(other);
-        self.compare(other, is_plain, raw::vowherunga_wildcard_eq_word, compare::wildcard_eq)
+        self.compare(other, raw::vowherunga_wildcard_eq_word, compare::wildcard_eq)
     }
 }
