@@ -84,6 +84,7 @@ impl Runs {
 
     /// Sees that so many runs at least ended as told, and that no run wrote behind its output.
     pub fn expect(&self, least: &[(&str, usize)]) {
+        println!("runs by their endings: {:?}", self.endings);
         for (ending, n) in least {
             let ended = self.endings.get(*ending).copied().unwrap_or(0);
             assert!(ended >= *n, "{ended} runs ended with {ending}, not {n}: {:?}", self.endings);

@@ -1,5 +1,6 @@
 //! The calls of the store, one after the other, on both sides: wider vectors and more kinds than a list can have.
 use crate::alike::{lend, store_of};
+use crate::draws::Draws;
 use vowherunga::reference::draw::Rng;
 use vowherunga::reference::steps::{operands, Machine, Shape};
 use vowherunga::reference::Vector;
@@ -70,12 +71,13 @@ fn drawn_step(rng: &mut Rng, shape: &Shape, cells: &[Vector]) -> Step {
 
 #[test]
 fn drawn_calls() {
-    let mut rng = Rng::new(56);
+    let mut draws = Draws::new(3_000, 56);
     let mut refused = [0; 15];
-    for _ in 0..3_000 {
+    for _ in 0..draws.count {
+        let rng = &mut draws.rng;
         let shape = Shape {
             has_faults: true,
-            ..Shape::short(&mut rng)
+            ..Shape::short(rng)
         };
         let words = rng.choose(&[8, 40, 600, 2400]);
         let scratch = rng.choose(&[1, 2, 157, 157, 157]);
@@ -90,13 +92,16 @@ fn drawn_calls() {
                 let v = rng.operand(width);
                 pair.input(&v)
             } else {
-                let step = drawn_step(&mut rng, &shape, &pair.machine.cells);
+                let step = drawn_step(rng, &shape, &pair.machine.cells);
                 pair.step(step)
             };
             refused[usize::from(number)] += 1;
         }
     }
-    assert!([0, 7, 11, 13].iter().all(|n| refused[*n] > 300), "{refused:?} by number");
+    assert!(
+        [0, 7, 11, 13].iter().all(|n| refused[*n] > draws.share(300)),
+        "{refused:?} by number"
+    );
 }
 
 /// Every op on cells of the widest width and of one bit less.

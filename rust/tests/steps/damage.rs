@@ -1,5 +1,6 @@
 //! Texts with a fault: refused by 6 exactly where the strict reader finds no list, and otherwise run as what they became.
 use crate::alike::Runs;
+use crate::draws::Draws;
 use vowherunga::reference::draw::Rng;
 use vowherunga::reference::steps::{List, Shape};
 
@@ -56,16 +57,17 @@ fn damage_line(rng: &mut Rng, text: &mut Vec<u8>) {
 
 #[test]
 fn damaged_texts() {
-    let mut rng = Rng::new(52);
+    let mut draws = Draws::new(40_000, 52);
     let mut runs = Runs::new();
     let mut accepted = 0;
-    for k in 0..40_000 {
-        let shape = Shape::short(&mut rng);
+    for k in 0..draws.count {
+        let rng = &mut draws.rng;
+        let shape = Shape::short(rng);
         let drawn = rng.list(&shape);
         let mut text = drawn.list.text().into_bytes();
         match k % 4 {
-            0 => damage_line(&mut rng, &mut text),
-            _ => damage_byte(&mut rng, &mut text),
+            0 => damage_line(rng, &mut text),
+            _ => damage_byte(rng, &mut text),
         }
         let memory = rng.memory([drawn.words + 8; 2], [drawn.largest + 1; 2]);
         let left = runs.compare(&text, &memory);
@@ -73,8 +75,8 @@ fn damaged_texts() {
         assert_eq!(left.output == "refused=6\nstep=0\n", !is_list);
         accepted += usize::from(is_list);
     }
-    assert!(accepted > 1_000, "{accepted} damaged texts are still lists");
-    runs.expect(&[("refused=6", 20_000)]);
+    assert!(accepted > draws.share(1_000), "{accepted} damaged texts are still lists");
+    runs.expect(&draws.endings([("refused=6", 20_000)]));
 }
 
 /// Every byte of a list replaced by every other byte.

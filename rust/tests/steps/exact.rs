@@ -1,6 +1,7 @@
 //! A bit of a step's result is known as b exactly where all completions of the operands give b: worked out by trying them all.
 use crate::alike::{Left, Runs};
-use vowherunga::reference::draw::{low_bits, Rng};
+use crate::draws::Draws;
+use vowherunga::reference::draw::low_bits;
 use vowherunga::reference::steps::Shape;
 use vowherunga::steps::{Op, Step};
 
@@ -77,11 +78,12 @@ fn agreed(step: Step, operands: [Small; 3]) -> [u64; 2] {
 
 #[test]
 fn known_exactly_where_completions_agree() {
-    let mut rng = Rng::new(55);
+    let mut draws = Draws::new(6_000, 55);
     let mut runs = Runs::new();
     let mut steps = [0; 17];
-    for _ in 0..6_000 {
-        let shape = Shape::short(&mut rng).keeping_known();
+    for _ in 0..draws.count {
+        let rng = &mut draws.rng;
+        let shape = Shape::short(rng).keeping_known();
         let drawn = rng.list(&shape);
         let memory = rng.memory([drawn.words; 2], [1; 2]);
         let left = runs.run(drawn.list.text().as_bytes(), &memory);
@@ -104,9 +106,9 @@ fn known_exactly_where_completions_agree() {
             steps[usize::from(step.op.code())] += 1;
         }
     }
-    runs.expect(&[("done", 6_000)]);
+    runs.expect(&[("done", draws.count)]);
     for op in Op::ALL {
         let is_lossy = matches!(op, Op::CaseEqual | Op::CasezEqual | Op::CasexEqual | Op::WildcardEqual);
-        assert!(is_lossy || steps[usize::from(op.code())] > 500, "{steps:?} steps");
+        assert!(is_lossy || steps[usize::from(op.code())] > draws.share(500), "{steps:?} steps");
     }
 }

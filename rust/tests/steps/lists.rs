@@ -1,16 +1,18 @@
 //! Drawn lists run on both sides.
 use crate::alike::Runs;
+use crate::draws::Draws;
 use vowherunga::reference::draw::Rng;
 use vowherunga::reference::steps::{Memory, Shape};
 use vowherunga::steps::Op;
 
 #[test]
 fn drawn_lists() {
-    let mut rng = Rng::new(50);
+    let mut draws = Draws::new(24_000, 50);
     let mut runs = Runs::new();
     let mut ops = [0; 17];
-    for _ in 0..24_000 {
-        let shape = Shape::any(&mut rng);
+    for _ in 0..draws.count {
+        let rng = &mut draws.rng;
+        let shape = Shape::any(rng);
         let drawn = rng.list(&shape);
         let memory = rng.memory_for(&drawn);
         let left = runs.compare(drawn.list.text().as_bytes(), &memory);
@@ -19,7 +21,7 @@ fn drawn_lists() {
             .iter()
             .for_each(|step| ops[usize::from(step.op.code())] += 1);
     }
-    runs.expect(&[
+    runs.expect(&draws.endings([
         ("done", 10_000),
         ("refused=4", 100),
         ("refused=6", 50),
@@ -27,9 +29,9 @@ fn drawn_lists() {
         ("refused=11", 500),
         ("refused=13", 1_000),
         ("refused=14", 300),
-    ]);
+    ]));
     for (op, n) in Op::ALL.into_iter().zip(ops) {
-        assert!(n > 5_000, "{n} steps {op}");
+        assert!(n > draws.share(5_000), "{n} steps {op}");
     }
 }
 

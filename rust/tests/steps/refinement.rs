@@ -1,6 +1,6 @@
 //! Runs on inputs of which unknown bits are made 0 or 1: the same ending, and every known bit kept.
 use crate::alike::Runs;
-use vowherunga::reference::draw::Rng;
+use crate::draws::Draws;
 use vowherunga::reference::steps::Shape;
 
 /// Sees that an output is another with unknown bits made any. How many bits of each were known.
@@ -24,11 +24,12 @@ fn keeps_known(before: &str, after: &str) -> [usize; 2] {
 
 #[test]
 fn known_bits_are_kept() {
-    let mut rng = Rng::new(54);
+    let mut draws = Draws::new(12_000, 54);
     let mut runs = Runs::new();
     let mut known = [0, 0];
-    for _ in 0..12_000 {
-        let shape = Shape::any(&mut rng).keeping_known();
+    for _ in 0..draws.count {
+        let rng = &mut draws.rng;
+        let shape = Shape::any(rng).keeping_known();
         let drawn = rng.list(&shape);
         let refined = rng.refined(&drawn.list);
         let memory = rng.memory_for(&drawn);
@@ -38,6 +39,9 @@ fn known_bits_are_kept() {
         let [a, b] = keeps_known(&before.output, &after.output);
         known = [known[0] + a, known[1] + b];
     }
-    assert!(known[0] > 100_000 && known[1] > known[0] + known[0] / 10, "{known:?} known bits");
-    runs.expect(&[("done", 10_000), ("refused=7", 100), ("refused=11", 100), ("refused=13", 100)]);
+    assert!(
+        known[0] > draws.share(100_000) && known[1] > known[0] + known[0] / 10,
+        "{known:?} known bits"
+    );
+    runs.expect(&draws.endings([("done", 10_000), ("refused=7", 100), ("refused=11", 100), ("refused=13", 100)]));
 }
