@@ -1,24 +1,17 @@
 -- The four tables of single-bit rules: one computed test over all their entries, and the law that turns it into the rule at each entry.
 --     each          what a test passes at each of the four bits holds of any bit
 --     at, at-not    what is looked up in a rule's table is the rule
---     code-lt, of-code     a code is below 4, and gives its bit back
-use mathlib.Core.Path.{_≡_, refl, ap, _∙_}
-use mathlib.Core.Bool.{Bool, true, false, _&&_}
+--     code-lt, of-code, same-eq     a code is below 4, and gives its bit back; bits of the same code are the same
+use mathlib.Core.Path.{_≡_, refl, sym, ap, _∙_}
+use mathlib.Core.Bool.{Bool, _&&_}
 use mathlib.Core.List.{List, [], _∷_}
 use Prim.Native.Nat.{ℕ, _<_}
 use lib.ListN.{getD}
 use lib.Dec.{T, eqb, eqb→eq, lit<}
-use Rattle.bit.specs.Rules.{code, ofCode, entry, andBit, orBit, xorBit, mergeBit, notBit}
+use Rattle.bit.specs.Rules.{code, ofCode, entry, same, andBit, orBit, xorBit, mergeBit, notBit}
 use Rattle.bit.specs.declared.LogicBit.{LogicBit}
 use Rattle.bit.specs.declared.LogicBit.the-variants.{Zero, One, X, Z}
-
-pub and-left : (a b : Bool) → T (a && b) → T a
-and-left true b t = tt
-and-left false b t = t
-
-pub and-right : (a b : Bool) → T (a && b) → T b
-and-right true b t = t
-and-right false b t = absurd t
+use Rattle.bit.proofs.Tests.{and-left, and-right}
 
 -- the test passes at each of the four bits
 abbrev pub all : (LogicBit → Bool) → Bool
@@ -41,6 +34,9 @@ of-code Zero = refl
 of-code One = refl
 of-code X = refl
 of-code Z = refl
+
+pub same-eq : (a b : LogicBit) → T (same a b) → a ≡ b
+same-eq a b t = sym (of-code a) ∙ ap ofCode (eqb→eq (code a) (code b) t) ∙ of-code b
 
 -- the rules of two bits
 pub data Rule : Type 0 where

@@ -1,4 +1,5 @@
--- Document 01, "Planes": the bits of a vector that are put in from a place on, and those that are read out.
+-- Document 01, "Planes" (`splice64`, `extract64`) and "Result vector" (insert): the bits of a vector that are put in from a place on, and those
+-- that are read out.
 use mathlib.Core.Bool.{Bool, _&&_, cond}
 use mathlib.Core.List.{List}
 use Prim.Native.Nat.{ℕ, _+_, _-_, _*_, min}
@@ -10,7 +11,7 @@ use Rattle.words.specs.declared.Word.{Word}
 use Rattle.words.specs.Vector.{tabulate, at, bitAt, pack}
 use Rattle.words.specs.Planes.{planeBit, packed, bitOf}
 
--- how many bits are put in: the least of n, 64 and the width minus the position
+-- how many bits are put in: the least of n, 64 and the width minus the position ("Result vector"); none at or above the width
 abbrev pub spliceCount : ℕ → ℕ → ℕ → ℕ
 spliceCount w pos n = min n (min 64 (w - pos))
 
@@ -18,13 +19,13 @@ spliceCount w pos n = min n (min 64 (w - pos))
 abbrev pub within : ℕ → ℕ → ℕ → Bool
 within pos n i = leb pos i && ltb i (pos + n)
 
--- the lowest bits of a word stand from the position on; the other bits stay
+-- the lowest bits of a word stand from the position on, as many as are put in; the other bits stay
 abbrev pub spliced : List LogicBit → ℕ → ℕ → Word → List LogicBit
 spliced bs pos n x =
     tabulate (length bs)
     (λ i. cond (within pos (spliceCount (length bs) pos n) i) (bitOf x (i - pos)) (at bs i))
 
--- the same on the digits of one plane
+-- on the digits of one plane: the n lowest digits of x stand from the position on, as far as the plane has words
 abbrev pub splicedPlane : List ℕ → ℕ → ℕ → ℕ → List ℕ
 splicedPlane p pos n x =
     tabulate (length p)

@@ -5,7 +5,7 @@ use Rattle.refusal.specs.Outcome.{Outcome, orRefuse}
 use Rattle.words.specs.Planes.{Planes}
 use Rattle.value.specs.declared.Header.{Header}
 use Rattle.value.specs.Checks.{vector, checkVector, checkPair, written}
-use Rattle.extension.specs.Extension.{larger}
+use Rattle.extension.specs.Extension.{largerWidth}
 use Rattle.lanes.specs.declared.Bitwise.{Bitwise}
 use Rattle.lanes.specs.declared.Bitwise.the-variants.{And, Or, Xor, Merge}
 use Rattle.join.specs.Joined.{joined, inverted}
@@ -15,11 +15,11 @@ abbrev pub resultSigned : Bitwise → Header → Header → Bool
 resultSigned And a b = false
 resultSigned Or a b = false
 resultSigned Xor a b = false
-resultSigned Merge a b = leb (larger a b) 64 && (a .«is_signed» && b .«is_signed»)
+resultSigned Merge a b = leb (largerWidth a b) 64 && (a .«is_signed» && b .«is_signed»)
 
 -- no result is a fill
 abbrev pub resultHeader : Bitwise → Header → Header → Header
-resultHeader op a b = record { width = larger a b; «is_signed» = resultSigned op a b; «is_fill» = false }
+resultHeader op a b = record { width = largerWidth a b; «is_signed» = resultSigned op a b; «is_fill» = false }
 
 -- `bitwise_and`, `bitwise_or`, `bitwise_xor`, `merge_unknown`: 1 to 4 for the left operand, then for the right, then 5
 abbrev pub bitwise : Bitwise → Header → Planes → Header → Planes → Planes → Outcome Header Planes

@@ -9,9 +9,9 @@ use lib.Dec.{ltb}
 use Rattle.value.specs.Checks.{Vector}
 use Rattle.ops.specs.declared.Step.{Step}
 use Rattle.ops.specs.declared.Question.the-variants as question
-use Rattle.ops.specs.declared.Kind.{Kind}
-use Rattle.ops.specs.declared.Kind.the-variants as kind
-use Rattle.ops.specs.Ops.{kindOperands, operands, kindRefused, kindHeader, kindBits}
+use Rattle.ops.specs.declared.Family.{Family}
+use Rattle.ops.specs.declared.Family.the-variants as family
+use Rattle.ops.specs.Ops.{familyOperands, operands, familyRefused, familyHeader, familyBits}
 use Rattle.machine.specs.Machine.{names}
 use Rattle.cells.specs.Cells.{named}
 use Rattle.cells.proofs.Spans.{both}
@@ -20,27 +20,27 @@ use Rattle.cells.proofs.Spans.{both}
 
 -- the numbers a, b, c name vectors
 module _ (g : ℕ → Vector) (a b c pos : ℕ) where
-  abbrev vectorBy : Kind → ℕ → ℕ → Vector
-  vectorBy k b c = record { header = kindHeader k (g a .header) (g b .header) (g c .header); bits = kindBits k (g a) (g b) (g c) pos }
+  abbrev vectorBy : Family → ℕ → ℕ → Vector
+  vectorBy k b c = record { header = familyHeader k (g a .header) (g b .header) (g c .header); bits = familyBits k (g a) (g b) (g c) pos }
 
-  abbrev second : Kind → ℕ
-  second k = cond (ltb (kindOperands k) 2) a b
+  abbrev second : Family → ℕ
+  second k = cond (ltb (familyOperands k) 2) a b
 
-  abbrev third : Kind → ℕ
-  third k = cond (ltb (kindOperands k) 3) a c
+  abbrev third : Family → ℕ
+  third k = cond (ltb (familyOperands k) 3) a c
 
-  pub unread : (k : Kind) → (kindRefused k (g b .header) (g c .header) ≡ kindRefused k (g (second k) .header) (g (third k) .header))
+  pub unread : (k : Family) → (familyRefused k (g b .header) (g c .header) ≡ familyRefused k (g (second k) .header) (g (third k) .header))
       × (vectorBy k b c ≡ vectorBy k (second k) (third k))
-  unread (kind.Join j) = (refl, refl)
-  unread kind.Not = (refl, refl)
-  unread (kind.Answer question.ReduceAnd) = (refl, refl)
-  unread (kind.Answer question.ReduceOr) = (refl, refl)
-  unread (kind.Answer question.ReduceXor) = (refl, refl)
-  unread (kind.Answer (question.Compare q)) = (refl, refl)
-  unread (kind.Answer question.LogicAnd) = (refl, refl)
-  unread (kind.Answer question.LogicOr) = (refl, refl)
-  unread kind.Select = (refl, refl)
-  unread kind.Insert = (refl, refl)
+  unread (family.Join j) = (refl, refl)
+  unread family.Not = (refl, refl)
+  unread (family.Answer question.ReduceAnd) = (refl, refl)
+  unread (family.Answer question.ReduceOr) = (refl, refl)
+  unread (family.Answer question.ReduceXor) = (refl, refl)
+  unread (family.Answer (question.Compare q)) = (refl, refl)
+  unread (family.Answer question.LogicAnd) = (refl, refl)
+  unread (family.Answer question.LogicOr) = (refl, refl)
+  unread family.Select = (refl, refl)
+  unread family.Insert = (refl, refl)
 
 -- ---- the numbers
 

@@ -39,7 +39,8 @@ abbrev pub accepts : Answer Unit → Bool
 accepts (given u) = true
 accepts (refused n) = false
 
--- a cell's span begins at word k and lies within the arenas, and the cell breaks none of 1, 3 and 4; the span has its word count, so 2 never
+-- a cell's span begins at word k and lies within the arenas, and the cell breaks none of 1, 3 and 4; in arenas of equal length a span has its word
+-- count, so 2 is never the reason
 unfoldable pub cellAgrees : Planes → ℕ → Cell → Bool
 cellAgrees a k c =
     eqb (c .start) k && leb (c .start + cellWords c) (length (a .value)) && accepts (checkVector (c .header) (cellPlanes a c))

@@ -7,34 +7,34 @@ ghost use Prim.Native.Nat.{_≤_};
 ghost use lib.ListN.{length};
 
 // How much of the buffer was read; `failed` where a read failed.
-pub struct Input {
+pub struct ReadCount {
     pub failed: bool,
     pub count: usize,
 }
 
 // Reads to the end of standard input, or until the buffer is full.
-fn read_all(buf: &mut [u8]) -> Input
+fn read_all(buf: &mut [u8]) -> ReadCount
     ensures { λ r. ⌜ r .count ≤ length (now (buf .exit)) ⌝ }
 {
     let mut done = 0;
     while done < buf.len() {
         let got = libc::read(STDIN_FILENO, &mut buf[done..]);
         if got < 0 {
-            return Input {
+            return ReadCount {
                 failed: true,
                 count: done,
             };
         }
         let more = io::count(got, &buf[done..]);
         if more == 0 {
-            return Input {
+            return ReadCount {
                 failed: false,
                 count: done,
             };
         }
         done += more;
     }
-    Input {
+    ReadCount {
         failed: false,
         count: done,
     }

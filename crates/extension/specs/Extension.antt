@@ -38,8 +38,8 @@ extendsByTop CasexEqual = true
 extendsByTop WildcardEqual = true
 
 -- both operands are read at the larger width
-abbrev pub larger : Header → Header → ℕ
-larger a b = max (a .width) (b .width)
+abbrev pub largerWidth : Header → Header → ℕ
+largerWidth a b = max (a .width) (b .width)
 
 -- the top bit; 0 of an empty vector
 abbrev pub top : List LogicBit → LogicBit

@@ -1,4 +1,5 @@
--- What a run leaves as it crosses to C: two numbers, the fields of the store, the lent planes and the buffer.
+-- What a run (document 01, "Step list") leaves as it crosses to C: two numbers, the fields of the store ("Cell store"), the lent planes and the
+-- buffer.
 use Prim.Native.Nat.{ℕ}
 use mathlib.Core.List.{List}
 use Rattle.words.specs.Planes.{Planes}

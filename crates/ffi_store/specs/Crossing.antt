@@ -1,4 +1,5 @@
--- What the calls of the store give and leave as they cross to C: the answer as numbers, the fields of the store, and the lent planes.
+-- What the calls of the store give and leave as they cross to C: the answer in the numbers of document 01, "Numbers for what is not done", the fields
+-- of the store ("Cell store"), and the lent planes.
 use Prim.Native.Nat.{ℕ}
 use Rattle.refusal.specs.Outcome.{Outcome}
 use Rattle.words.specs.Planes.{Planes}

@@ -19,15 +19,15 @@ abbrev pub fields : List ℕ → List ℕ → List Bool → List Bool → Fields
 fields a b c d = record { starts = a; widths = b; signs = c; fills = d }
 
 -- the cell at place i
-abbrev pub cellAt : Fields → ℕ → Cell
-cellAt f i = record {
+abbrev pub cellOf : Fields → ℕ → Cell
+cellOf f i = record {
   start = getD (f .starts) i 0;
   header = record { width = getD (f .widths) i 0; «is_signed» = getD (f .signs) i false; «is_fill» = getD (f .fills) i false };
 }
 
 -- n cells are filled, and place i of the 320 has the i-th of each list
 abbrev pub storeOf : ℕ → Fields → Store
-storeOf n f = record { cells = tabulate 320 (cellAt f); count = n }
+storeOf n f = record { cells = tabulate 320 (cellOf f); count = n }
 
 abbrev pub fieldsOf : Store → Fields
 fieldsOf s =

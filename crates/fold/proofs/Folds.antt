@@ -1,8 +1,7 @@
 -- The reductions and truth beside each other.
 --     and-fold, or-fold, xor-fold     a reduction is its single-bit rule, folded over the bits from the rule's neutral bit
---     same-eq       bits of the same code are the same
 --     truth-or      truth as a bit is the or-reduction
---     holds-and     whether a known 0 stands in a vector, denied, is the and-reduction
+--     contains-and     whether a known 0 stands in a vector, denied, is the and-reduction
 use mathlib.Core.Path.{_≡_, refl, sym, ap, _∙_}
 use mathlib.Core.Bool.{Bool, true, false, not, _&&_, _||_, cond}
 use mathlib.Core.List.{List, [], _∷_, foldr}
@@ -10,13 +9,14 @@ use Prim.Native.Nat.{ℕ, _+_, _%_}
 use native.Mathlib.Nat.{zero-add}
 use native.Mathlib.Omega.{arith}
 use borrow.Author.Tests.{eq-eqb, ne-eqb, eqb-true, eqb-false}
-use lib.Dec.{T, eqb, eqb→eq}
+use lib.Dec.{T, eqb}
 use Rattle.bit.specs.declared.LogicBit.{LogicBit}
 use Rattle.bit.specs.declared.LogicBit.the-variants.{Zero, One, X, Z}
-use Rattle.bit.specs.Rules.{code, ofCode, same, andBit, orBit, xorBit, notBit}
-use Rattle.bit.proofs.Table.{all, each, and-left, and-right, of-code}
+use Rattle.bit.specs.Rules.{same, andBit, orBit, xorBit, notBit}
+use Rattle.bit.proofs.Tests.{and-left, and-right}
+use Rattle.bit.proofs.Table.{all, each, same-eq}
 use Rattle.fold.specs.declared.Truth.the-variants.{False, True, Unknown}
-use Rattle.fold.specs.Fold.{any, count, unknown, reduceAnd, reduceOr, reduceXor, holds, truthOf, truthBit}
+use Rattle.fold.specs.Fold.{any, count, isUnknown, reduceAnd, reduceOr, reduceXor, contains, truthOf, truthBit}
 
 -- ---- and, or
 
@@ -27,9 +27,6 @@ each-bool : (p : Bool → Bool) → T (both p) → (b : Bool) → T (p b)
 each-bool p t true = and-left (p true) (p false) t
 each-bool p t false = and-right (p true) (p false) t
 
-pub same-eq : (a b : LogicBit) → T (same a b) → a ≡ b
-same-eq a b t = sym (of-code a) ∙ ap ofCode (eqb→eq (code a) (code b) t) ∙ of-code b
-
 -- the bit d if it was seen, else x if an unknown bit was, else e
 abbrev decided : LogicBit → LogicBit → Bool → Bool → LogicBit
 decided d e seen x = cond seen d (cond x X e)
@@ -37,14 +34,14 @@ decided d e seen x = cond seen d (cond x X e)
 module _ (f : LogicBit → LogicBit → LogicBit) (d e : LogicBit) where
   -- the rule, put before a vector's reduction, is the reduction with one bit more
   abbrev steps : LogicBit → Bool → Bool → Bool
-  steps b seen x = same (f b (decided d e seen x)) (decided d e (same d b || seen) (unknown b || x))
+  steps b seen x = same (f b (decided d e seen x)) (decided d e (same d b || seen) (isUnknown b || x))
 
-  folded : T (all (λ b. both (λ seen. both (steps b seen)))) → (bs : List LogicBit) → decided d e (any (same d) bs) (any unknown bs) ≡ foldr f e bs
+  folded : T (all (λ b. both (λ seen. both (steps b seen)))) → (bs : List LogicBit) → decided d e (any (same d) bs) (any isUnknown bs) ≡ foldr f e bs
   folded t [] = refl
   folded t (b ∷ bs) =
       let seen : Bool = any (same d) bs in
-      let x : Bool = any unknown bs in
-      sym (same-eq (f b (decided d e seen x)) (decided d e (same d b || seen) (unknown b || x))
+      let x : Bool = any isUnknown bs in
+      sym (same-eq (f b (decided d e seen x)) (decided d e (same d b || seen) (isUnknown b || x))
       (each-bool (steps b seen) (each-bool (λ seen. both (steps b seen)) (each (λ b. both (λ seen. both (steps b seen))) t b) seen) x))
       ∙ ap (f b) (folded t bs)
 
@@ -74,7 +71,7 @@ xor-one : (z : Bool) → cond (not z) Zero One ≡ xorBit One (cond z Zero One)
 xor-one true = refl
 xor-one false = refl
 
-xor-step : (b : LogicBit) (x : Bool) (n : ℕ) → parity (unknown b || x) (cond (same One b) 1 0 + n) ≡ xorBit b (parity x n)
+xor-step : (b : LogicBit) (x : Bool) (n : ℕ) → parity (isUnknown b || x) (cond (same One b) 1 0 + n) ≡ xorBit b (parity x n)
 xor-step Zero true n = refl
 xor-step Zero false n = simp zero-add (xor-known (eqb (n % 2) 0))
 xor-step One true n = refl
@@ -84,20 +81,20 @@ xor-step Z x n = refl
 
 pub xor-fold : (bs : List LogicBit) → reduceXor bs ≡ foldr xorBit Zero bs
 xor-fold [] = refl
-xor-fold (b ∷ bs) = xor-step b (any unknown bs) (count (same One) bs) ∙ ap (xorBit b) (xor-fold bs)
+xor-fold (b ∷ bs) = xor-step b (any isUnknown bs) (count (same One) bs) ∙ ap (xorBit b) (xor-fold bs)
 
 -- ---- truth
 
 pub truth-or : (bs : List LogicBit) → truthBit (truthOf bs) ≡ reduceOr bs
-truth-or bs = go (any (same One) bs) (any unknown bs)
+truth-or bs = go (any (same One) bs) (any isUnknown bs)
   where
     go : (seen x : Bool) → truthBit (cond seen True (cond x Unknown False)) ≡ decided One Zero seen x
     go true x = refl
     go false true = refl
     go false false = refl
 
-pub holds-and : (bs : List LogicBit) → notBit (truthBit (holds Zero bs)) ≡ reduceAnd bs
-holds-and bs = go (any (same Zero) bs) (any unknown bs)
+pub contains-and : (bs : List LogicBit) → notBit (truthBit (contains Zero bs)) ≡ reduceAnd bs
+contains-and bs = go (any (same Zero) bs) (any isUnknown bs)
   where
     go : (seen x : Bool) → notBit (truthBit (cond seen True (cond x Unknown False))) ≡ decided Zero One seen x
     go true x = refl

@@ -20,9 +20,11 @@ use Rattle.words.specs.Planes.{stored, fromPlanes}
 use Rattle.words.proofs.Digits.{bit-and, bit-xor, bit-not, bit-ones, bit-of-zero, bit-lt, bit-mod, bit-mod-above, lt-or-ge}
 use Rattle.words.proofs.Planes.{length-tabulate}
 use Rattle.fold.specs.declared.Truth.the-variants.{False, True, Unknown}
-use Rattle.fold.specs.Fold.{any, unknown, knownBit, holds}
+use Rattle.fold.specs.Fold.{any, isUnknown, knownBit, contains}
+use Rattle.fold.specs.Scanned.{some}
+use Rattle.fold.specs.Scanned as scanned
 use Rattle.fold.proofs.Gather.{gather-cong}
-use Rattle.fold.proofs.Places.{some, nonzero, WordPlanes, inside, outside, unknown-word}
+use Rattle.fold.proofs.Places.{nonzero, WordPlanes, inside, outside, unknown-word}
 use Rattle.fold.proofs.Scan as scan
 use Rattle.fold.proofs.Scan.{none-left, open-told}
 
@@ -66,25 +68,25 @@ module _ (w : ℕ) (v u : List ℕ) (one : Bool) where
 
   -- no word before k has the bit looked for, and `seen` is 0 where none of them has an unknown bit
   abbrev pub Scanned : ℕ → ℕ → Type 0
-  Scanned = scan.Scanned (same (knownBit one)) unknown (knownBit (not one)) Zero bits
+  Scanned = scanned.Scanned (same (knownBit one)) isUnknown (knownBit (not one)) Zero bits
 
-  pub done : (seen k : ℕ) → Scanned seen k → w ≤ k * 64 → (z : Bool) → eqb seen 0 ≡ z → cond (not z) Unknown False ≡ holds (knownBit one) bits
+  pub done : (seen k : ℕ) → Scanned seen k → w ≤ k * 64 → (z : Bool) → eqb seen 0 ≡ z → cond (not z) Unknown False ≡ contains (knownBit one) bits
   done seen k s l z e =
       let b : length bits ≤ k * 64 = rw length-tabulate l in
       sym (ap₂ (λ (x y : Bool). cond x True (cond y Unknown False))
-      (none-left (same (knownBit one)) unknown (knownBit (not one)) Zero bits (differs one) seen k s b)
-      (open-told (same (knownBit one)) unknown (knownBit (not one)) Zero bits (differs one) seen k s refl b ∙ ap not e))
+      (none-left (same (knownBit one)) isUnknown (knownBit (not one)) Zero bits (differs one) seen k s b)
+      (open-told (same (knownBit one)) isUnknown (knownBit (not one)) Zero bits (differs one) seen k s refl b ∙ ap not e))
 
   module _ (p : WordPlanes w v u) where
     -- by a word x that is not 0 where the bit looked for stands in word k
     module _ (seen k x : ℕ) (s : Scanned seen k) (h : not (eqb x 0) ≡ some 64 (λ j. hit (k * 64 + j))) where
       pub more : x ≡ 0 → Scanned (bitOr seen (getD u k 0)) (k + 1)
-      more e = scan.more (same (knownBit one)) unknown (knownBit (not one)) Zero bits (differs one) seen k s x h e (getD u k 0) (unknown-word w v u p k)
+      more e = scan.more (same (knownBit one)) isUnknown (knownBit (not one)) Zero bits (differs one) seen k s x h e (getD u k 0) (unknown-word w v u p k)
 
-      pub found : (x ≡ 0 → ⊥) → True ≡ holds (knownBit one) bits
+      pub found : (x ≡ 0 → ⊥) → True ≡ contains (knownBit one) bits
       found e =
-          sym (ap (λ (z : Bool). cond z True (cond (any unknown bits) Unknown False))
-          (scan.found (same (knownBit one)) unknown (knownBit (not one)) Zero bits (differs one) seen k s x h e))
+          sym (ap (λ (z : Bool). cond z True (cond (any isUnknown bits) Unknown False))
+          (scan.found (same (knownBit one)) isUnknown (knownBit (not one)) Zero bits (differs one) seen k s x h e))
 
     module _ (flip : ℕ) (f : flip ≡ flipOf one) (k : ℕ) where
       -- a one at each place of word k where the bit looked for stands

@@ -20,12 +20,9 @@ use Rattle.words.specs.Vector.{at, bitAt, tabulate}
 use Rattle.words.specs.Planes.{stored, planeBit, fromPlanes, Plane}
 use Rattle.words.proofs.Digits.{bit-lt, lt-or-ge}
 use Rattle.words.proofs.Planes.{getD-tabulate, getD-tabulate-out, plane-bit}
-use Rattle.fold.specs.Fold.{any, unknown}
-use Rattle.fold.proofs.Gather.{gather, gather-cong, gather-add, gather-word, of-list, of-digits}
-
--- one of the places below n passes
-abbrev pub some : ℕ → (ℕ → Bool) → Bool
-some = gather _||_ false
+use Rattle.fold.specs.Fold.{any, isUnknown}
+use Rattle.fold.specs.Scanned.{gather, some}
+use Rattle.fold.proofs.Gather.{gather-cong, gather-add, gather-word, of-list, of-digits}
 
 pub some-word : (k : ℕ) (f : ℕ → Bool) → some ((k + 1) * 64) f ≡ (some (k * 64) f || some 64 (λ j. f (k * 64 + j)))
 some-word = gather-word _||_ false (λ b. refl) or-assoc
@@ -75,7 +72,7 @@ or-nonzero x y = go (eqb x 0) refl (eqb y 0) refl
 
 -- ---- planes
 
-unknown-stored : (v u : ℕ) → u < 2 → eqb u 1 ≡ unknown (stored v u)
+unknown-stored : (v u : ℕ) → u < 2 → eqb u 1 ≡ isUnknown (stored v u)
 unknown-stored zero zero l = refl
 unknown-stored (suc v) zero l = refl
 unknown-stored zero (suc zero) l = refl
@@ -90,7 +87,7 @@ pub record WordPlanes (w : ℕ) (v u : List ℕ) : Type 0 where
   pub unknown-words : (k : ℕ) → getD u k 0 < 2 ^ 64
 
 abbrev pub unknownAt : List LogicBit → ℕ → Bool
-unknownAt bs i = unknown (at bs i)
+unknownAt bs i = isUnknown (at bs i)
 
 module _ (w : ℕ) (v u : List ℕ) where
   pub inside : (e : LogicBit) (k j : ℕ) → j < 64 → k * 64 + j < w
@@ -106,6 +103,6 @@ module _ (w : ℕ) (v u : List ℕ) where
       nonzero 64 (getD u k 0) (p .unknown-words k)
       ∙ gather-cong _||_ false 64 (λ j. eqb (bitAt (getD u k 0) j) 1) (λ j. unknownAt (fromPlanes w v u) (k * 64 + j))
       (λ j l. ⊎-elim
-      (λ m. unknown-stored (bitAt (getD v k 0) j) (bitAt (getD u k 0) j) (bit-lt (getD u k 0) j) ∙ ap unknown (sym (inside Zero k j l m)))
-      (λ m. ap (λ (x : ℕ). eqb x 1) (plane-bit u k j l ∙ p .unknown-plane .clear (k * 64 + j) m) ∙ sym (ap unknown (outside Zero (k * 64 + j) m)))
+      (λ m. unknown-stored (bitAt (getD v k 0) j) (bitAt (getD u k 0) j) (bit-lt (getD u k 0) j) ∙ ap isUnknown (sym (inside Zero k j l m)))
+      (λ m. ap (λ (x : ℕ). eqb x 1) (plane-bit u k j l ∙ p .unknown-plane .clear (k * 64 + j) m) ∙ sym (ap isUnknown (outside Zero (k * 64 + j) m)))
       (lt-or-ge (k * 64 + j) w))

@@ -1,5 +1,4 @@
 -- A scan for a member of a list that passes a test, 64 places at a time. Beyond its end the list is continued by members that fail the tests.
---     Scanned     none passes the test p below word k, and the word `seen` is 0 where none passes q there
 --     start, more, found         no word yet; one word more; one that passes p is found
 --     none-left, open-told       what is known once all words are scanned
 use mathlib.Core.Path.{_≡_, refl, sym, ap, ap₂, _∙_}
@@ -11,19 +10,18 @@ use lib.Dec.{eqb}
 use lib.ListN.{length, getD}
 use lib.Bits.{bitOr}
 use Rattle.fold.specs.Fold.{any}
-use Rattle.fold.proofs.Gather.{gather}
-use Rattle.fold.proofs.Places.{some, some-word, any-some, any-found, or-nonzero}
+use Rattle.fold.specs.Scanned.{gather, some, Scanned}
+use Rattle.fold.proofs.Places.{some-word, any-some, any-found, or-nonzero}
 
 module _ {B : Type 0} (p q : B → Bool) (e d : B) (bs : List B) where
-  pub record Scanned (seen k : ℕ) : Type 0 where
-    pub absent : some (k * 64) (λ i. p (getD bs i e)) ≡ false
-    pub told : not (eqb seen 0) ≡ some (k * 64) (λ i. q (getD bs i d))
+  abbrev Behind : ℕ → ℕ → Type 0
+  Behind = Scanned p q e d bs
 
-  pub start : Scanned 0 0
+  pub start : Behind 0 0
   unfolding gather
   start = record { absent = refl; told = refl }
 
-  module _ (fails : p e ≡ false) (seen k : ℕ) (s : Scanned seen k) where
+  module _ (fails : p e ≡ false) (seen k : ℕ) (s : Behind seen k) where
     pub none-left : length bs ≤ k * 64 → any p bs ≡ false
     none-left l = any-some p e fails bs (k * 64) l ∙ s .absent
 
@@ -32,7 +30,7 @@ module _ {B : Type 0} (p q : B → Bool) (e d : B) (bs : List B) where
 
     -- by a word x that is not 0 where one passes p in word k
     module _ (x : ℕ) (h : not (eqb x 0) ≡ some 64 (λ j. p (getD bs (k * 64 + j) e))) where
-      pub more : x ≡ 0 → (y : ℕ) → not (eqb y 0) ≡ some 64 (λ j. q (getD bs (k * 64 + j) d)) → Scanned (bitOr seen y) (k + 1)
+      pub more : x ≡ 0 → (y : ℕ) → not (eqb y 0) ≡ some 64 (λ j. q (getD bs (k * 64 + j) d)) → Behind (bitOr seen y) (k + 1)
       more z y g = record {
         absent = some-word k (λ i. p (getD bs i e)) ∙ ap₂ _||_ (s .absent) (sym h ∙ ap (λ (y : ℕ). not (eqb y 0)) z);
         told = or-nonzero seen y ∙ ap₂ _||_ (s .told) g ∙ sym (some-word k (λ i. q (getD bs i d)));

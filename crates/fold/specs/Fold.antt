@@ -20,32 +20,32 @@ abbrev pub count : (LogicBit → Bool) → List LogicBit → ℕ
 count p [] = 0
 count p (b ∷ bs) = cond (p b) 1 0 + count p bs
 
-abbrev pub unknown : LogicBit → Bool
-unknown b = not (known b)
+abbrev pub isUnknown : LogicBit → Bool
+isUnknown b = not (known b)
 
 -- 0 on any known 0, else x on any unknown, else 1
 abbrev pub reduceAnd : List LogicBit → LogicBit
-reduceAnd bs = cond (any (same Zero) bs) Zero (cond (any unknown bs) X One)
+reduceAnd bs = cond (any (same Zero) bs) Zero (cond (any isUnknown bs) X One)
 
 -- 1 on any known 1, else x on any unknown, else 0
 abbrev pub reduceOr : List LogicBit → LogicBit
-reduceOr bs = cond (any (same One) bs) One (cond (any unknown bs) X Zero)
+reduceOr bs = cond (any (same One) bs) One (cond (any isUnknown bs) X Zero)
 
 -- x on any unknown, else whether the number of ones is odd
 abbrev pub reduceXor : List LogicBit → LogicBit
-reduceXor bs = cond (any unknown bs) X (cond (eqb (count (same One) bs % 2) 0) Zero One)
+reduceXor bs = cond (any isUnknown bs) X (cond (eqb (count (same One) bs % 2) 0) Zero One)
 
 abbrev pub knownBit : Bool → LogicBit
 knownBit true = One
 knownBit false = Zero
 
 -- whether the known bit b stands in a vector: true where it does, else unknown on an unknown bit, else false
-abbrev pub holds : LogicBit → List LogicBit → Truth
-holds b bs = cond (any (same b) bs) True (cond (any unknown bs) Unknown False)
+abbrev pub contains : LogicBit → List LogicBit → Truth
+contains b bs = cond (any (same b) bs) True (cond (any isUnknown bs) Unknown False)
 
 -- true on a known 1, else unknown on an unknown bit, else false
 abbrev pub truthOf : List LogicBit → Truth
-truthOf = holds One
+truthOf = contains One
 
 -- a truth as a bit, x where it is unknown
 abbrev pub truthBit : Truth → LogicBit

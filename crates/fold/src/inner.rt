@@ -9,10 +9,10 @@ ghost use Rattle.fold.specs.Fold.{reduceAnd, reduceOr, reduceXor, truthO
 ghost use Rattle.fold.specs.Fold as fold;
 
 // Whether a known 1 stands in the vector, or a known 0 where `one` is false; unknown where only an unknown bit could be it.
-fn holds(width: u32, value: &[u64], unknown: &[u64], one: bool) -> Truth
+fn contains(width: u32, value: &[u64], unknown: &[u64], one: bool) -> Truth
     requires { ⌜ Plane width (now value) ⌝ }
     requires { ⌜ Plane width (now unknown) ⌝ }
-    ensures { λ r. ⌜ r ≡ fold.holds (knownBit one) (fromPlanes width (now (value .entry)) (now (unknown .entry))) ⌝ }
+    ensures { λ r. ⌜ r ≡ fold.contains (knownBit one) (fromPlanes width (now (value .entry)) (now (unknown .entry))) ⌝ }
 {
     let flip = if one { 0 } else { 0xffff_ffff_ffff_ffff };
     let last = value.len() - 1;
@@ -44,7 +44,7 @@ pub fn truth(width: u32, value: &[u64], unknown: &[u64]) -> Truth
     requires { ⌜ Plane width (now unknown) ⌝ }
     ensures { λ r. ⌜ r ≡ truthOf (fromPlanes width (now (value .entry)) (now (unknown .entry))) ⌝ }
 {
-    holds(width, value, unknown, true)
+    contains(width, value, unknown, true)
 }
 
 // 0 on any known 0, else x on any unknown bit, else 1.
@@ -53,7 +53,7 @@ pub fn and_bits(width: u32, value: &[u64], unknown: &[u64]) -> LogicBit
     requires { ⌜ Plane width (now unknown) ⌝ }
     ensures { λ r. ⌜ r ≡ reduceAnd (fromPlanes width (now (value .entry)) (now (unknown .entry))) ⌝ }
 {
-    match holds(width, value, unknown, false) {
+    match contains(width, value, unknown, false) {
         Truth::True => LogicBit::Zero,
         Truth::Unknown => LogicBit::X,
         Truth::False => LogicBit::One,

@@ -1,3 +1,3 @@
 pub mod Turns
-pub mod Narrow
+pub mod Thin
 pub mod Loops

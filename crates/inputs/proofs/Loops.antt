@@ -16,9 +16,9 @@ use Rattle.words.proofs.Planes.{length-tabulate, getD-tabulate}
 use Rattle.value.specs.Checks.{Vector, vector}
 use Rattle.store.specs.Store.{State, appended, checkInput}
 use Rattle.inputs.specs.Inputs.{addListed, addInputs}
-use Rattle.inputs.specs.Limits.{Thin, Narrow}
+use Rattle.inputs.specs.Limits.{Thin, AllThin}
 use Rattle.inputs.proofs.Turns.{inputs-done, input-turn, input-last}
-use Rattle.inputs.proofs.Narrow.{narrow-put}
+use Rattle.inputs.proofs.Thin.{thin-put}
 
 module _ {A : Type 0} (n : ℕ) (f : ℕ → A) (i : ℕ) where
   pub next-one : i < n → drop i (tabulate n f) ≡ f i ∷ drop (i + 1) (tabulate n f)
@@ -30,20 +30,20 @@ module _ {A : Type 0} (n : ℕ) (f : ℕ → A) (i : ℕ) where
   pub none-left : n ≤ i → drop i (tabulate n f) ≡ []
   none-left h = drop-of-length-le (tabulate n f) {i = i} (omega (arith, length-tabulate n f))
 
-listed-narrow : (s : State) (v : Vector) → Narrow (s .store) → Thin (v .header) → Narrow (addListed s v .left .store)
-listed-narrow s v n t = go (checkInput s (v .header) (planesOf (v .bits)))
+listed-thin : (s : State) (v : Vector) → AllThin (s .store) → Thin (v .header) → AllThin (addListed s v .left .store)
+listed-thin s v n t = go (checkInput s (v .header) (planesOf (v .bits)))
   where
-    go : (x : Answer Unit) → Narrow (orRefuse x s (outcome (given (s .store .count)) (appended (vector (v .header) (planesOf (v .bits))) s)) .left .store)
-    go (given u) = narrow-put (v .header) (s .store) n t
+    go : (x : Answer Unit) → AllThin (orRefuse x s (outcome (given (s .store .count)) (appended (vector (v .header) (planesOf (v .bits))) s)) .left .store)
+    go (given u) = thin-put (v .header) (s .store) n t
     go (refused k) = n
 
 -- the state s with the inputs from i on has the outcome of the state `from` with all n of them
 pub record Fed (from : State) (n : ℕ) (f : ℕ → Vector) (s : State) (i : ℕ) : Type 0 where
-  pub narrow : Narrow (s .store)
+  pub narrow : AllThin (s .store)
   pub left : addInputs from (tabulate n f) ≡ addInputs s (drop i (tabulate n f))
 
 module _ (n : ℕ) (f : ℕ → Vector) where
-  pub feed-start : (from s : State) → s ≡ from → Narrow (from .store) → Fed from n f s 0
+  pub feed-start : (from s : State) → s ≡ from → AllThin (from .store) → Fed from n f s 0
   feed-start from s e t = subst (λ (z : State). Fed from n f z 0) (sym e) (record { narrow = t; left = refl })
 
   module _ (from s : State) (i : ℕ) (h : Fed from n f s i) where
@@ -57,14 +57,14 @@ module _ (n : ℕ) (f : ℕ → Vector) where
       pub feed-more : (k : ℕ) (t : State) → outcome (given k) t ≡ addListed s (f i) → Thin (f i .header) → Fed from n f t (i + 1)
       feed-more k t e thin =
           subst (λ (z : State). Fed from n f z (i + 1)) (sym (ap (λ (o : Outcome ℕ State). o .left) e)) (record {
-            narrow = listed-narrow s (f i) (h .narrow) thin;
+            narrow = listed-thin s (f i) (h .narrow) thin;
             left = onto ∙ input-turn s (f i) (drop (i + 1) (tabulate n f)) k (sym (ap (λ (o : Outcome ℕ State). o .answer) e));
           })
 
       pub feed-last : (k : ℕ) (t : State) → outcome (refused k) t ≡ addListed s (f i) → Thin (f i .header)
-          → (outcome (refused k) t ≡ addInputs from (tabulate n f)) × Narrow (t .store)
+          → (outcome (refused k) t ≡ addInputs from (tabulate n f)) × AllThin (t .store)
       feed-last k t e thin = (
         ap (λ (z : State). outcome (refused k) z) (ap (λ (o : Outcome ℕ State). o .left) e)
             ∙ sym (onto ∙ input-last s (f i) (drop (i + 1) (tabulate n f)) k (sym (ap (λ (o : Outcome ℕ State). o .answer) e))),
-        subst (λ (z : State). Narrow (z .store)) (sym (ap (λ (o : Outcome ℕ State). o .left) e)) (listed-narrow s (f i) (h .narrow) thin),
+        subst (λ (z : State). AllThin (z .store)) (sym (ap (λ (o : Outcome ℕ State). o .left) e)) (listed-thin s (f i) (h .narrow) thin),
       )

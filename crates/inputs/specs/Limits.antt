@@ -14,8 +14,8 @@ abbrev pub Thin : Header → Type 0
 Thin h = h .width ≤ 4096
 
 -- no cell is wider
-abbrev pub Narrow : Store → Type 0
-Narrow s = (j : ℕ) → Thin (getD (s .cells) j noCell .header)
+abbrev pub AllThin : Store → Type 0
+AllThin s = (j : ℕ) → Thin (getD (s .cells) j noCell .header)
 
 -- the input's bits stand in the text s
 abbrev pub InputReadable : List ℕ → Input → Type 0

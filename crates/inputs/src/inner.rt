@@ -16,7 +16,7 @@ ghost use Rattle.words.specs.Planes.{wordCount, lent};
 ghost use Rattle.store.specs.Store.{state, emptyStore, cellAnswer};
 ghost use Rattle.steplist.specs.Answers.{inputIn, listIn};
 ghost use Rattle.inputs.specs.Inputs.{addListed, addInputs};
-ghost use Rattle.inputs.specs.Limits.{Narrow, InputReadable, Readable};
+ghost use Rattle.inputs.specs.Limits.{AllThin, InputReadable, Readable};
 
 // Adds an input of the list, its planes filled from its characters into two lent planes.
 fn add_filled(
@@ -74,7 +74,7 @@ pub fn add_inputs(
 ) -> Fed
     requires { ⌜ Readable (now text) list ⌝ }
     ensures { λ r. ⌜ outcome (verdict (r .verdict)) (state (r .store) (lent (now («arena_value» .exit)) (now («arena_unknown» .exit)))) ≡ addInputs (state emptyStore (lent (now («arena_value» .entry)) (now («arena_unknown» .entry)))) (listIn (now (text .entry)) list .inputs) ⌝ }
-    ensures { λ r. ⌜ Narrow (r .store) ⌝ }
+    ensures { λ r. ⌜ AllThin (r .store) ⌝ }
 {
     let n = list.input_count;
     let mut s = Store::new();

@@ -3,9 +3,9 @@
 --     stands-spliced    where they stand there, putting them in changes nothing
 use mathlib.Core.Path.{_≡_, refl, sym, ap, ap₂, _∙_, subst}
 use mathlib.Core.Bool.{Bool, true, false, _&&_, cond}
-use mathlib.Core.Logic.{_⊎_, inl, inr, ⊎-elim}
+use mathlib.Core.Logic.{_⊎_, ⊎-elim}
 use mathlib.Core.List.{List}
-use Prim.Native.Nat.{ℕ, zero, suc, _+_, _-_, _*_, _^_, _≤_, _<_, min, suc-le-suc}
+use Prim.Native.Nat.{ℕ, zero, suc, _+_, _-_, _^_, _≤_, _<_, suc-le-suc}
 use native.Mathlib.Nat.{not-suc-le-zero, le-of-suc-le-suc, zero-lt-suc, lt-of-le-of-lt}
 use native.Mathlib.Omega.{arith}
 use borrow.Author.Tests.{lt-ltb, le-ltb, leb-true, ltb-true, eq-eqb}
@@ -13,32 +13,19 @@ use lib.Dec.{T, eqb, ltb, leb, eqb→eq}
 use lib.Bits.{bitAnd, and-mask, and-le-l}
 use lib.ListN.{length, getD}
 use Rattle.bit.specs.declared.LogicBit.{LogicBit}
-use Rattle.bit.specs.declared.LogicBit.the-variants.{Zero, One, X, Z}
-use Rattle.bit.specs.Rules.{code, ofCode, same}
-use Rattle.bit.proofs.Table.{and-left, and-right, of-code}
+use Rattle.bit.specs.declared.LogicBit.the-variants.{Zero}
+use Rattle.bit.specs.Rules.{code, same}
+use Rattle.bit.proofs.Tests.{and-left, and-right, and-intro, bool-ext}
+use Rattle.bit.proofs.Table.{same-eq}
 use Rattle.words.specs.declared.Word.{Word}
-use Rattle.words.specs.Vector.{at, bitAt, tabulate, pack}
-use Rattle.words.specs.Planes.{valueDigit, unknownDigit, stored, packed, bitOf}
+use Rattle.words.specs.Vector.{at, bitAt, pack}
+use Rattle.words.specs.Planes.{valueDigit, unknownDigit, stored, bitOf}
 use Rattle.words.proofs.Digits.{bit-lt, bit-mod, bit-mod-above, pack-bit, pack-ext, lt-or-ge}
 use Rattle.words.proofs.Planes.{eq-tabulate, stored-bit, value-digit-lt, unknown-digit-lt, value-digit-stored, unknown-digit-stored}
 use Rattle.bits.specs.Bits.{within, spliceCount, spliced, extracted}
-use Rattle.bits.proofs.Splice.{packed-bit}
 use Rattle.insert.specs.Insert.{allBelow, stands}
 
 -- ---- tests
-
-bool-ext : (a b : Bool) → (T a → T b) → (T b → T a) → a ≡ b
-bool-ext true true f g = refl
-bool-ext true false f g = absurd (f tt)
-bool-ext false true f g = absurd (g tt)
-bool-ext false false f g = refl
-
-both-true : (a b : Bool) → T a → T b → T (a && b)
-both-true true b s t = t
-both-true false b s t = s
-
-same-eq : (a b : LogicBit) → T (same a b) → a ≡ b
-same-eq a b t = sym (of-code a) ∙ ap ofCode (eqb→eq (code a) (code b) t) ∙ of-code b
 
 eq-same : (a b : LogicBit) → a ≡ b → T (same a b)
 eq-same a b e = subst T (sym (eq-eqb (code a) (code b) (ap code e))) tt
@@ -53,7 +40,7 @@ below-all : (n : ℕ) (p : ℕ → Bool) → ((j : ℕ) → j < n → T (p j)) �
 unfolding allBelow
 below-all zero p h = tt
 below-all (suc n) p h =
-    both-true (p 0) (allBelow n (λ i. p (suc i))) (h 0 (zero-lt-suc n)) (below-all n (λ i. p (suc i)) (λ j l. h (suc j) (suc-le-suc l)))
+    and-intro (p 0) (allBelow n (λ i. p (suc i))) (h 0 (zero-lt-suc n)) (below-all n (λ i. p (suc i)) (λ j l. h (suc j) (suc-le-suc l)))
 
 -- ---- words
 
@@ -104,7 +91,7 @@ module _ (bs : List LogicBit) (pos n : ℕ) (x : Word) (hn : n ≤ 64) (hv : x .
           → T (eqb (extracted bs pos n .value) (bitAnd (x .value) (2 ^ n - 1)) && eqb (extracted bs pos n .unknown) (bitAnd (x .unknown) (2 ^ n - 1)))
       back t =
           let e : (j : ℕ) → j < n → bitOf x j ≡ old j = λ j l. same-eq (bitOf x j) (old j) (all-below n (λ j. same (bitOf x j) (at bs (pos + j))) t j l) in
-          both-true (eqb (extracted bs pos n .value) (bitAnd (x .value) (2 ^ n - 1))) (eqb (extracted bs pos n .unknown) (bitAnd (x .unknown) (2 ^ n - 1)))
+          and-intro (eqb (extracted bs pos n .value) (bitAnd (x .value) (2 ^ n - 1))) (eqb (extracted bs pos n .unknown) (bitAnd (x .unknown) (2 ^ n - 1)))
           (subst T (sym (eq-eqb (extracted bs pos n .value) (bitAnd (x .value) (2 ^ n - 1)) (sym (cut-is valueDigit value-digit-lt refl (x .value) old n hn hv (λ j l. value-of j (e j l)))))) tt)
           (subst T (sym (eq-eqb (extracted bs pos n .unknown) (bitAnd (x .unknown) (2 ^ n - 1)) (sym (cut-is unknownDigit unknown-digit-lt refl (x .unknown) old n hn hu (λ j l. unknown-of j (e j l)))))) tt)
 

@@ -1,17 +1,14 @@
 -- Two operands that are read by their extents, joined at the larger width.
 --     same-bits       the result over the extents is the result of the definition
 --     direct-word     word i of the result from word i of the planes, where both operands have it whole
-use mathlib.Core.Path.{_≡_, refl, sym, ap, ap₂, _∙_}
+use mathlib.Core.Path.{_≡_, refl, ap, ap₂, _∙_}
 use mathlib.Core.List.{List}
-use Prim.Native.Nat.{ℕ, _+_, _*_, _/_, _≤_, _<_, min, max}
+use Prim.Native.Nat.{ℕ, _/_, _≤_, _<_, min, max}
 use native.Mathlib.Omega.{arith}
 use lib.ListN.{length, getD}
-use Rattle.bit.specs.declared.LogicBit.{LogicBit}
 use Rattle.words.specs.declared.Word.{Word}
-use Rattle.words.specs.Vector.{at, tabulate}
-use Rattle.words.specs.Planes.{valueDigit, unknownDigit, fromPlanes, wordOf, wordAt, lent}
-use Rattle.words.proofs.Extend.{wordBy}
-use Rattle.words.proofs.Fill.{Written}
+use Rattle.words.specs.Vector.{at, tabulate, Written}
+use Rattle.words.specs.Planes.{valueDigit, unknownDigit, fromPlanes, wordOf, wordAt, lent, wordBy}
 use Rattle.value.specs.declared.Header.{Header}
 use Rattle.extension.specs.declared.Extent.{Extent}
 use Rattle.extension.specs.declared.Operator.{Operator}
@@ -54,10 +51,10 @@ module _ (op : Bitwise) (a b : Header) (av au bv bu : List ℕ) (t : Operator) (
       (omega (arith, left-narrow))
 
   module _ (N n : ℕ) (out : List ℕ) (hn : n ≡ min (x .width) (y .width) / 64) where
-    pub value-written : Written (λ k. laneWord (opBit op) (wordBy (getD av k 0) (getD au k 0)) (wordBy (getD bv k 0) (getD bu k 0)) .value) N n out
-        → Written (wordOf valueDigit (at (joinedOver op w x (lent av au) y (lent bv bu)))) (length out) n out
+    pub value-written : Written 0 (λ k. laneWord (opBit op) (wordBy (getD av k 0) (getD au k 0)) (wordBy (getD bv k 0) (getD bu k 0)) .value) N n out
+        → Written 0 (wordOf valueDigit (at (joinedOver op w x (lent av au) y (lent bv bu)))) (length out) n out
     value-written h = record { long = refl; upto = λ i l. h .upto i l ∙ ap (λ (z : Word). z .value) (direct-word i (rw hn at l)) }
 
-    pub unknown-written : Written (λ k. laneWord (opBit op) (wordBy (getD av k 0) (getD au k 0)) (wordBy (getD bv k 0) (getD bu k 0)) .unknown) N n out
-        → Written (wordOf unknownDigit (at (joinedOver op w x (lent av au) y (lent bv bu)))) (length out) n out
+    pub unknown-written : Written 0 (λ k. laneWord (opBit op) (wordBy (getD av k 0) (getD au k 0)) (wordBy (getD bv k 0) (getD bu k 0)) .unknown) N n out
+        → Written 0 (wordOf unknownDigit (at (joinedOver op w x (lent av au) y (lent bv bu)))) (length out) n out
     unknown-written h = record { long = refl; upto = λ i l. h .upto i l ∙ ap (λ (z : Word). z .unknown) (direct-word i (rw hn at l)) }

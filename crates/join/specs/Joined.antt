@@ -10,7 +10,7 @@ use Rattle.value.specs.Checks.{Vector}
 use Rattle.extension.specs.declared.Extent.{Extent}
 use Rattle.extension.specs.declared.Operator.{Operator}
 use Rattle.extension.specs.declared.Operator.the-variants as operator-of
-use Rattle.extension.specs.Extension.{larger, operandAt}
+use Rattle.extension.specs.Extension.{largerWidth, operandAt}
 use Rattle.lanes.specs.Lanes.{opBit}
 use Rattle.lanes.specs.declared.Bitwise.{Bitwise}
 use Rattle.lanes.specs.declared.Bitwise.the-variants.{And, Or, Xor, Merge}
@@ -25,7 +25,7 @@ operator Merge = operator-of.Merge
 -- the rule at each place of the larger width
 abbrev pub joined : Bitwise → Vector → Vector → List LogicBit
 joined op a b =
-    tabulate (larger (a .header) (b .header))
+    tabulate (largerWidth (a .header) (b .header))
     (λ i. opBit op (operandAt (operator op) a (b .header) i) (operandAt (operator op) b (a .header) i))
 
 -- the same over two operands that are read by their extents, at width w: what the inner functions give

@@ -14,10 +14,8 @@ use words::inner::operand_word;
 ghost use mathlib.Core.Path.{_≡_};
 ghost use Prim.Native.Nat.{_≤_, max};
 ghost use lib.ListN.{length, getD};
-ghost use Rattle.words.specs.Vector.{at};
-ghost use Rattle.words.specs.Planes.{wordCount, fromPlanes, wordOf, valueDigit, unknownDigit, lent, planesOf, Plane};
-ghost use Rattle.words.proofs.Extend.{wordBy};
-ghost use Rattle.words.proofs.Fill.{Written};
+ghost use Rattle.words.specs.Vector.{at, Written};
+ghost use Rattle.words.specs.Planes.{wordCount, fromPlanes, wordOf, valueDigit, unknownDigit, lent, planesOf, Plane, wordBy};
 ghost use Rattle.value.specs.Checks.{vector};
 ghost use Rattle.lanes.specs.Lanes.{opBit, laneWord};
 ghost use Rattle.join.specs.Joined as joined;
@@ -37,8 +35,8 @@ fn join_words(
     requires { ⌜ (n ≤ length (now av)) × (n ≤ length (now au)) ⌝ }
     requires { ⌜ (n ≤ length (now bv)) × (n ≤ length (now bu)) ⌝ }
     requires { ⌜ (n ≤ length (now ov)) × (n ≤ length (now ou)) ⌝ }
-    ensures { λ _. ⌜ Written (λ k. laneWord (opBit op) (wordBy (getD (now (av .entry)) k 0) (getD (now (au .entry)) k 0)) (wordBy (getD (now (bv .entry)) k 0) (getD (now (bu .entry)) k 0)) .value) (length (now (ov .entry))) n (now (ov .exit)) ⌝ }
-    ensures { λ _. ⌜ Written (λ k. laneWord (opBit op) (wordBy (getD (now (av .entry)) k 0) (getD (now (au .entry)) k 0)) (wordBy (getD (now (bv .entry)) k 0) (getD (now (bu .entry)) k 0)) .unknown) (length (now (ou .entry))) n (now (ou .exit)) ⌝ }
+    ensures { λ _. ⌜ Written 0 (λ k. laneWord (opBit op) (wordBy (getD (now (av .entry)) k 0) (getD (now (au .entry)) k 0)) (wordBy (getD (now (bv .entry)) k 0) (getD (now (bu .entry)) k 0)) .value) (length (now (ov .entry))) n (now (ov .exit)) ⌝ }
+    ensures { λ _. ⌜ Written 0 (λ k. laneWord (opBit op) (wordBy (getD (now (av .entry)) k 0) (getD (now (au .entry)) k 0)) (wordBy (getD (now (bv .entry)) k 0) (getD (now (bu .entry)) k 0)) .unknown) (length (now (ou .entry))) n (now (ou .exit)) ⌝ }
 {
     let mut k = 0;
     while k < n {
@@ -71,8 +69,8 @@ fn join_whole(
     requires { ⌜ (n ≤ length (now av)) × (n ≤ length (now au)) ⌝ }
     requires { ⌜ (n ≤ length (now bv)) × (n ≤ length (now bu)) ⌝ }
     requires { ⌜ (n ≤ length (now ov)) × (n ≤ length (now ou)) ⌝ }
-    ensures { λ _. ⌜ Written (λ k. laneWord (opBit op) (wordBy (getD (now (av .entry)) k 0) (getD (now (au .entry)) k 0)) (wordBy (getD (now (bv .entry)) k 0) (getD (now (bu .entry)) k 0)) .value) (length (now (ov .entry))) n (now (ov .exit)) ⌝ }
-    ensures { λ _. ⌜ Written (λ k. laneWord (opBit op) (wordBy (getD (now (av .entry)) k 0) (getD (now (au .entry)) k 0)) (wordBy (getD (now (bv .entry)) k 0) (getD (now (bu .entry)) k 0)) .unknown) (length (now (ou .entry))) n (now (ou .exit)) ⌝ }
+    ensures { λ _. ⌜ Written 0 (λ k. laneWord (opBit op) (wordBy (getD (now (av .entry)) k 0) (getD (now (au .entry)) k 0)) (wordBy (getD (now (bv .entry)) k 0) (getD (now (bu .entry)) k 0)) .value) (length (now (ov .entry))) n (now (ov .exit)) ⌝ }
+    ensures { λ _. ⌜ Written 0 (λ k. laneWord (opBit op) (wordBy (getD (now (av .entry)) k 0) (getD (now (au .entry)) k 0)) (wordBy (getD (now (bv .entry)) k 0) (getD (now (bu .entry)) k 0)) .unknown) (length (now (ou .entry))) n (now (ou .exit)) ⌝ }
 {
     match op {
         Bitwise::And => join_words(Bitwise::And, av, au, bv, bu, ov, ou, n),
@@ -99,8 +97,8 @@ fn join_rest(
     requires { ⌜ (wordCount (a .width) ≤ length (now av)) × (wordCount (a .width) ≤ length (now au)) ⌝ }
     requires { ⌜ (wordCount (b .width) ≤ length (now bv)) × (wordCount (b .width) ≤ length (now bu)) ⌝ }
     requires { ⌜ (length (now ov) ≡ wordCount width) × (length (now ou) ≡ wordCount width) ⌝ }
-    requires { ⌜ Written (wordOf valueDigit (at (joinedOver op width a (lent (now av) (now au)) b (lent (now bv) (now bu))))) (length (now ov)) from (now ov) ⌝ }
-    requires { ⌜ Written (wordOf unknownDigit (at (joinedOver op width a (lent (now av) (now au)) b (lent (now bv) (now bu))))) (length (now ou)) from (now ou) ⌝ }
+    requires { ⌜ Written 0 (wordOf valueDigit (at (joinedOver op width a (lent (now av) (now au)) b (lent (now bv) (now bu))))) (length (now ov)) from (now ov) ⌝ }
+    requires { ⌜ Written 0 (wordOf unknownDigit (at (joinedOver op width a (lent (now av) (now au)) b (lent (now bv) (now bu))))) (length (now ou)) from (now ou) ⌝ }
     ensures { λ _. ⌜ lent (now (ov .exit)) (now (ou .exit)) ≡ planesOf (joinedOver op width a (lent (now (av .entry)) (now (au .entry))) b (lent (now (bv .entry)) (now (bu .entry)))) ⌝ }
 {
     let aw = a.width;

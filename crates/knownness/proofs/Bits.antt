@@ -10,8 +10,8 @@ use lib.Dec.{T}
 use Rattle.bit.specs.declared.LogicBit.{LogicBit}
 use Rattle.bit.specs.declared.LogicBit.the-variants.{Zero, One, X, Z}
 use Rattle.bit.specs.Rules.{same, known, andBit, orBit, xorBit, mergeBit, notBit}
-use Rattle.bit.proofs.Table.{all, each, and-left, and-right}
-use Rattle.fold.proofs.Folds.{same-eq}
+use Rattle.bit.proofs.Tests.{and-left, and-right, and-intro}
+use Rattle.bit.proofs.Table.{all, each, same-eq}
 use Rattle.knownness.specs.Knownness.{Known, Keeps, Refines, Completes}
 
 -- ---- the relations
@@ -35,10 +35,6 @@ by-implies : (a b : Bool) → T (implies a b) → T a → T b
 by-implies true b t u = t
 by-implies false b t u = absurd u
 
-and-both : (a b : Bool) → T a → T b → T (a && b)
-and-both true b t u = u
-and-both false b t u = absurd t
-
 abbrev keeps : LogicBit → LogicBit → Bool
 keeps a b = implies (known a) (same b a)
 
@@ -58,7 +54,7 @@ completes-told : (a r : LogicBit) → T (completes a r) → Completes a r
 completes-told a r t = (and-left (known r) (keeps a r) t, keeps-told a r (and-right (known r) (keeps a r) t))
 
 completes-test : (a r : LogicBit) → Completes a r → T (completes a r)
-completes-test a r h = and-both (known r) (keeps a r) (h .0) (keeps-test a r (h .1))
+completes-test a r h = and-intro (known r) (keeps a r) (h .0) (keeps-test a r (h .1))
 
 -- ---- a rule of three bits
 

@@ -18,7 +18,7 @@ use Rattle.value.specs.declared.Header.{Header}
 use Rattle.value.specs.Checks.{Vector}
 use Rattle.extension.specs.declared.Operator.{Operator}
 use Rattle.extension.specs.declared.Operator.the-variants as operator
-use Rattle.extension.specs.Extension.{larger, extension, operandAt, stretches}
+use Rattle.extension.specs.Extension.{largerWidth, extension, operandAt, stretches}
 use Rattle.fold.proofs.Folds.{and-fold}
 use Rattle.scan.specs.declared.Comparison.the-variants as comparison
 use Rattle.scan.specs.Compared.{compared}
@@ -47,8 +47,8 @@ of-same i =
 
 -- as the and of all places
 equal-fold : (t : LogicBit) (a b c : Vector)
-    → foldr andBit One (tabulate (larger (a .header) (b .header)) (λ i. sameAt i t a b c)) ≡ compared comparison.Equal a b
-equal-fold t a b c = sym (compared-and a b ∙ and-fold (tabulate (larger (a .header) (b .header)) (λ i. sameAt i t a b c)))
+    → foldr andBit One (tabulate (largerWidth (a .header) (b .header)) (λ i. sameAt i t a b c)) ≡ compared comparison.Equal a b
+equal-fold t a b c = sym (compared-and a b ∙ and-fold (tabulate (largerWidth (a .header) (b .header)) (λ i. sameAt i t a b c)))
 
 tabulate-keeps : (n : ℕ) (f g : ℕ → LogicBit) → ((i : ℕ) → Keeps (f i) (g i)) → (i : ℕ) → Keeps (at (tabulate n f) i) (at (tabulate n g) i)
 unfolding tabulate
@@ -64,7 +64,7 @@ tabulate-known (suc n) f h (suc i) = tabulate-known n (λ j. f (suc j)) (λ j. h
 
 equal-mono : Mono (λ t a b c. compared comparison.Equal a b)
 equal-mono t t′ a a′ b b′ c c′ ht ha hb hc =
-    let n : ℕ = larger (a .header) (b .header) in
+    let n : ℕ = largerWidth (a .header) (b .header) in
     let f : ℕ → LogicBit = λ i. sameAt i t a b c in
     let g : ℕ → LogicBit = λ i. sameAt i t′ a′ b′ c′ in
     let k : Keeps (foldr andBit One (tabulate n f)) (foldr andBit One (tabulate n g)) =
@@ -72,11 +72,11 @@ equal-mono t t′ a a′ b b′ c c′ ht ha hb hc =
     (length-tabulate n g ∙ sym (length-tabulate n f), tabulate-keeps n f g (λ i. of-same i .mono t t′ a a′ b b′ c c′ ht ha hb hc)) in
     subst (λ (x : LogicBit). Keeps x (compared comparison.Equal a′ b′)) (equal-fold t a b c)
     (subst (Keeps (foldr andBit One (tabulate n f)))
-    (ap₂ (λ (x y : Header). foldr andBit One (tabulate (larger x y) g)) (sym (ha .0)) (sym (hb .0)) ∙ equal-fold t′ a′ b′ c′) k)
+    (ap₂ (λ (x y : Header). foldr andBit One (tabulate (largerWidth x y) g)) (sym (ha .0)) (sym (hb .0)) ∙ equal-fold t′ a′ b′ c′) k)
 
 equal-known : (a b : Vector) → KnownBits (a .bits) → KnownBits (b .bits) → Known (compared comparison.Equal a b)
 equal-known a b ka kb =
-    let n : ℕ = larger (a .header) (b .header) in
+    let n : ℕ = largerWidth (a .header) (b .header) in
     let f : ℕ → LogicBit = λ i. sameAt i Zero a b a in
     subst Known (equal-fold Zero a b a)
     (fold-known andBit One exact-and tt (tabulate n f) (tabulate-known n f (λ i. of-same i .known Zero a b a tt ka kb ka)))

@@ -19,9 +19,9 @@ use Rattle.value.specs.declared.Header.{Header}
 use Rattle.value.specs.Checks.{Vector}
 use Rattle.ops.specs.declared.Op.{Op}
 use Rattle.ops.specs.declared.Step.{Step}
-use Rattle.ops.specs.declared.Kind.{Kind}
-use Rattle.ops.specs.declared.Kind.the-variants as kind
-use Rattle.ops.specs.Ops.{kindOf, armsRefused, kindHeader, opHeader, opVector}
+use Rattle.ops.specs.declared.Family.{Family}
+use Rattle.ops.specs.declared.Family.the-variants as family
+use Rattle.ops.specs.Ops.{familyOf, armsRefused, familyHeader, opHeader, opVector}
 use Rattle.ops.proofs.Results.{result-width}
 use Rattle.machine.specs.Machine.{Room, headersOf, noVector, cellAt, headerAt, checkCount, checkNames, checkRoom, checkScratch, stepHeader, checkStep, stepCell, Run, onward, runFrom}
 use Rattle.knownness.specs.Knownness.{AllSound, NoFill}
@@ -132,15 +132,15 @@ module _ (P : Vector → Type 0) (z : P noVector) (handed : Handed P) (r : Room)
 sound-handed : Handed (λ c. length (c .bits) ≡ c .header .width)
 sound-handed op pos a b c e ha hb hc = result-width a b c pos ha hb hc op e
 
-plain-kind : (k : Kind) (a b c : Header) → T (not (a .«is_fill»)) → T (not (kindHeader k a b c .«is_fill»))
-plain-kind (kind.Join j) a b c h = tt
-plain-kind kind.Not a b c h = tt
-plain-kind (kind.Answer q) a b c h = tt
-plain-kind kind.Select a b c h = tt
-plain-kind kind.Insert a b c h = h
+plain-family : (k : Family) (a b c : Header) → T (not (a .«is_fill»)) → T (not (familyHeader k a b c .«is_fill»))
+plain-family (family.Join j) a b c h = tt
+plain-family family.Not a b c h = tt
+plain-family (family.Answer q) a b c h = tt
+plain-family family.Select a b c h = tt
+plain-family family.Insert a b c h = h
 
 plain-handed : Handed (λ c. T (not (c .header .«is_fill»)))
-plain-handed op pos a b c e ha hb hc = plain-kind (kindOf op) (a .header) (b .header) (c .header) ha
+plain-handed op pos a b c e ha hb hc = plain-family (familyOf op) (a .header) (b .header) (c .header) ha
 
 module _ (r : Room) (cs : List Vector) where
   pub step-sound : (s : Step) (u : Unit) → checkStep r (headersOf cs) s ≡ given u → AllSound cs → AllSound (more cs s)

@@ -25,7 +25,7 @@ use Rattle.lanes.specs.declared.Bitwise.{Bitwise}
 use Rattle.lanes.specs.declared.Bitwise.the-variants as bitwise
 use Rattle.lanes.specs.Lanes.{opBit}
 use Rattle.extension.specs.declared.Operator.the-variants as operator-of
-use Rattle.extension.specs.Extension.{larger, operandAt}
+use Rattle.extension.specs.Extension.{largerWidth, operandAt}
 use Rattle.join.specs.Joined.{operator}
 use Rattle.fold.specs.declared.Truth.{Truth}
 use Rattle.fold.specs.declared.Truth.the-variants as truth
@@ -34,9 +34,9 @@ use Rattle.scan.specs.declared.Comparison.the-variants as comparison
 use Rattle.scan.specs.Compared.{compared}
 use Rattle.ops.specs.declared.Op.{Op}
 use Rattle.ops.specs.declared.Op.the-variants.{And, Or, Xor, Not, Merge, ReduceAnd, ReduceOr, ReduceXor, Equal, CaseEqual, CasezEqual, CasexEqual, WildcardEqual, LogicAnd, LogicOr, Select, Insert}
-use Rattle.ops.specs.declared.Kind.{Kind}
-use Rattle.ops.specs.declared.Kind.the-variants as kind
-use Rattle.ops.specs.Ops.{kindOf, kindRefused, answerBit, vectorTruth, selected, kindBits}
+use Rattle.ops.specs.declared.Family.{Family}
+use Rattle.ops.specs.declared.Family.the-variants as family
+use Rattle.ops.specs.Ops.{familyOf, familyRefused, answerBit, vectorTruth, selected, familyBits}
 use Rattle.ops.proofs.Results.{arms-alike}
 use Rattle.knownness.specs.Knownness.{keepsKnown, isExact, merges, armAt}
 use Rattle.knownness.proofs.Bits.{Rule, ExactRule, selectBit, exact-and, exact-or, exact-xor, exact-not, exact-left, exact-right, exact-select}
@@ -58,22 +58,22 @@ abbrev pub armBit : (second : Bool) → LogicBit
 armBit true = Zero
 armBit false = One
 
-abbrev pub formAt : Kind → (pos i : ℕ) → Form
-formAt (kind.Join j) pos i t a b c = joinRule j t (operandAt (operator j) a (b .header) i) (operandAt (operator j) b (a .header) i)
-formAt kind.Not pos i t a b c = notBit (at (a .bits) i)
-formAt (kind.Answer q) pos i t a b c = answerBit q a b
-formAt kind.Select pos i t a b c = selectBit (vectorTruth a) (at (b .bits) i) (at (c .bits) i)
-formAt kind.Insert pos i t a b c =
+abbrev pub formAt : Family → (pos i : ℕ) → Form
+formAt (family.Join j) pos i t a b c = joinRule j t (operandAt (operator j) a (b .header) i) (operandAt (operator j) b (a .header) i)
+formAt family.Not pos i t a b c = notBit (at (a .bits) i)
+formAt (family.Answer q) pos i t a b c = answerBit q a b
+formAt family.Select pos i t a b c = selectBit (vectorTruth a) (at (b .bits) i) (at (c .bits) i)
+formAt family.Insert pos i t a b c =
     cond (within pos (spliceCount (length (a .bits)) pos (b .header .width)) i) (at (b .bits) (i - pos)) (at (a .bits) i)
 
 -- ---- the result has the form at each place
 
 -- operands that are in order: each has as many bits as its header says, and the arms are not refused
-pub record Accepted (k : Kind) (a b c : Vector) : Type 0 where
+pub record Accepted (k : Family) (a b c : Vector) : Type 0 where
   pub first : length (a .bits) ≡ a .header .width
   pub second : length (b .bits) ≡ b .header .width
   pub third : length (c .bits) ≡ c .header .width
-  pub arms : kindRefused k (b .header) (c .header) ≡ false
+  pub arms : familyRefused k (b .header) (c .header) ≡ false
 
 join-rule : (j : Bitwise) → opBit j ≡ joinRule j X
 join-rule bitwise.And = refl
@@ -87,12 +87,12 @@ no-fills false true q e = absurd (subst T e tt)
 no-fills false false true e = absurd (subst T e tt)
 no-fills false false false e = (tt, tt)
 
-select-form : (a b c : Vector) → Accepted kind.Select a b c → (t : Truth) (i : ℕ) → i < length (selected t b c)
+select-form : (a b c : Vector) → Accepted family.Select a b c → (t : Truth) (i : ℕ) → i < length (selected t b c)
     → at (selected t b c) i ≡ selectBit (truthBit t) (at (b .bits) i) (at (c .bits) i)
 select-form a b c f truth.True i l = refl
 select-form a b c f truth.False i l = refl
 select-form a b c f truth.Unknown i l =
-    let n : ℕ = larger (b .header) (c .header) in
+    let n : ℕ = largerWidth (b .header) (c .header) in
     let m : i < n = subst (λ (n : ℕ). i < n) (length-tabulate n _) l in
     let p = no-fills (not (eqb (b .header .width) (c .header .width))) (b .header .«is_fill») (c .header .«is_fill») (f .arms) in
     let e = arms-alike (b .header) (c .header) (f .arms) in
@@ -111,35 +111,35 @@ insert-form b pos n i x l = go (leb pos i) (ltb i (pos + n)) refl refl
     go false z e f = refl
 
 module _ (a b c : Vector) (pos i : ℕ) where
-  pub made-form : (k : Kind) → Accepted k a b c → i < length (kindBits k a b c pos) → at (kindBits k a b c pos) i ≡ formAt k pos i X a b c
-  made-form (kind.Join j) f l =
-      let n : ℕ = larger (a .header) (b .header) in
+  pub made-form : (k : Family) → Accepted k a b c → i < length (familyBits k a b c pos) → at (familyBits k a b c pos) i ≡ formAt k pos i X a b c
+  made-form (family.Join j) f l =
+      let n : ℕ = largerWidth (a .header) (b .header) in
       getD-tabulate n _ i Zero (subst (λ (n : ℕ). i < n) (length-tabulate n _) l)
       ∙ ap (λ (g : LogicBit → LogicBit → LogicBit). g (operandAt (operator j) a (b .header) i) (operandAt (operator j) b (a .header) i)) (join-rule j)
-  made-form kind.Not f l =
+  made-form family.Not f l =
       let n : ℕ = length (a .bits) in getD-tabulate n _ i Zero (subst (λ (n : ℕ). i < n) (length-tabulate n _) l)
-  made-form (kind.Answer q) f l = one i l
+  made-form (family.Answer q) f l = one i l
     where
       one : (i : ℕ) → i < 1 → at (answerBit q a b ∷ []) i ≡ answerBit q a b
       one zero l = refl
       one (suc i) l = absurd (not-suc-le-zero (le-of-suc-le-suc l))
-  made-form kind.Select f l = select-form a b c f (truthOf (a .bits)) i l
-  made-form kind.Insert f l =
+  made-form family.Select f l = select-form a b c f (truthOf (a .bits)) i l
+  made-form family.Insert f l =
       let n : ℕ = length (a .bits) in
       getD-tabulate n _ i Zero (subst (λ (n : ℕ). i < n) (length-tabulate n _) l)
       ∙ insert-form b pos (spliceCount (length (a .bits)) pos (b .header .width)) i (at (a .bits) i) (omega arith)
 
-  pub given-form : (k : Kind) → Accepted k a b c → i < length (kindBits k a b c pos) → (second : Bool)
-      → cond (merges k) (armAt second a b i) (at (kindBits k a b c pos) i) ≡ formAt k pos i (armBit second) a b c
-  given-form (kind.Join bitwise.And) f l second = made-form (kind.Join bitwise.And) f l
-  given-form (kind.Join bitwise.Or) f l second = made-form (kind.Join bitwise.Or) f l
-  given-form (kind.Join bitwise.Xor) f l second = made-form (kind.Join bitwise.Xor) f l
-  given-form (kind.Join bitwise.Merge) f l true = refl
-  given-form (kind.Join bitwise.Merge) f l false = refl
-  given-form kind.Not f l second = made-form kind.Not f l
-  given-form (kind.Answer q) f l second = made-form (kind.Answer q) f l
-  given-form kind.Select f l second = made-form kind.Select f l
-  given-form kind.Insert f l second = made-form kind.Insert f l
+  pub given-form : (k : Family) → Accepted k a b c → i < length (familyBits k a b c pos) → (second : Bool)
+      → cond (merges k) (armAt second a b i) (at (familyBits k a b c pos) i) ≡ formAt k pos i (armBit second) a b c
+  given-form (family.Join bitwise.And) f l second = made-form (family.Join bitwise.And) f l
+  given-form (family.Join bitwise.Or) f l second = made-form (family.Join bitwise.Or) f l
+  given-form (family.Join bitwise.Xor) f l second = made-form (family.Join bitwise.Xor) f l
+  given-form (family.Join bitwise.Merge) f l true = refl
+  given-form (family.Join bitwise.Merge) f l false = refl
+  given-form family.Not f l second = made-form family.Not f l
+  given-form (family.Answer q) f l second = made-form (family.Answer q) f l
+  given-form family.Select f l second = made-form family.Select f l
+  given-form family.Insert f l second = made-form family.Insert f l
 
 -- ---- what holds of the forms
 
@@ -178,23 +178,23 @@ by-reading : (op : Op) (P : Vector → LogicBit) → Reading P → Law op (λ t 
 by-reading op P p = by-readings op (λ t a b. a) exact-left P P p p
 
 module _ (pos i : ℕ) where
-  by-join : (op : Op) (j : Bitwise) → Law op (formAt (kind.Join j) pos i)
-  by-join op j = exactly op (formAt (kind.Join j) pos i)
+  by-join : (op : Op) (j : Bitwise) → Law op (formAt (family.Join j) pos i)
+  by-join op j = exactly op (formAt (family.Join j) pos i)
       (of-two (Proper op) (λ s. joinRule j) (λ s. exact-join j) (λ s a. operandAt (operator j) a (s .right) i) (λ s b. operandAt (operator j) b (s .left) i)
       (λ s. of-operand (operator j) (s .right) i) (λ s. of-operand (operator j) (s .left) i))
 
-  by-select : Law Select (formAt kind.Select pos i)
-  by-select = exactly Select (formAt kind.Select pos i)
+  by-select : Law Select (formAt family.Select pos i)
+  by-select = exactly Select (formAt family.Select pos i)
       (of-three (Proper Select) selectBit exact-select vectorTruth (λ b. at (b .bits) i) (λ c. at (c .bits) i) of-truth (of-bit i) (of-bit i))
 
-  by-insert : Law Insert (formAt kind.Insert pos i)
+  by-insert : Law Insert (formAt family.Insert pos i)
   by-insert =
       let z : Frame → Bool = λ s. within pos (spliceCount (s .left-bits) pos (s .right .width)) i in
-      exactly Insert (formAt kind.Insert pos i)
+      exactly Insert (formAt family.Insert pos i)
       (of-two (Proper Insert) (λ s. pickRule (z s)) (λ s. exact-pick (z s)) (λ s a. at (a .bits) i) (λ s b. at (b .bits) (i - pos))
       (λ s. of-bit i) (λ s. of-bit (i - pos)))
 
-  pub law : (op : Op) → T (keepsKnown op) → Law op (formAt (kindOf op) pos i)
+  pub law : (op : Op) → T (keepsKnown op) → Law op (formAt (familyOf op) pos i)
   law And k = by-join And bitwise.And
   law Or k = by-join Or bitwise.Or
   law Xor k = by-join Xor bitwise.Xor

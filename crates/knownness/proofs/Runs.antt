@@ -19,9 +19,9 @@ use Rattle.words.specs.Vector.{at}
 use Rattle.value.specs.declared.Header.{Header}
 use Rattle.value.specs.Checks.{Vector}
 use Rattle.ops.specs.declared.Step.{Step}
-use Rattle.ops.specs.Ops.{kindOf, armsRefused}
-use Rattle.machine.specs.Machine.{Room, headersOf, noVector, cellAt, checkStep, stepCell, Run, onward, runFrom}
-use Rattle.knownness.specs.Knownness.{isExact, stepAt, AllKeep, Keeps, Refines, Pointwise, Cellwise, AllSound, NoFill, ExactStep, ExactRun, Alike}
+use Rattle.ops.specs.Ops.{familyOf, armsRefused}
+use Rattle.machine.specs.Machine.{Room, headersOf, noVector, cellAt, checkStep, stepCell, Run, onward, runFrom, machineRun}
+use Rattle.knownness.specs.Knownness.{isExact, stepAt, AllKeep, Keeps, Refines, Pointwise, Cellwise, AllSound, NoFill, ExactStep, ExactRun}
 use Rattle.knownness.proofs.Bits.{refines-keeps, keeps-refl}
 use Rattle.knownness.proofs.Ops.{Accepted}
 use Rattle.knownness.proofs.Steps.{width-again, op-keeps, op-exact}
@@ -58,7 +58,7 @@ keeps-more cs ds c d h p = (
 -- ---- one step
 
 accepted : (cs : List Vector) (s : Step) → AllSound cs → armsRefused (s .op) (cellAt cs (s .b) .header) (cellAt cs (s .c) .header) ≡ false
-    → Accepted (kindOf (s .op)) (cellAt cs (s .a)) (cellAt cs (s .b)) (cellAt cs (s .c))
+    → Accepted (familyOf (s .op)) (cellAt cs (s .a)) (cellAt cs (s .b)) (cellAt cs (s .c))
 accepted cs s a e = record { first = a (s .a); second = a (s .b); third = a (s .c); arms = e }
 
 module _ (r : Room) where
@@ -123,6 +123,11 @@ module _ (r : Room) where
       go p (given u) e (suc k) h t ih q l =
           let d : length (more cs s) + k ≡ length cs + suc k = omega (arith, len) in
           subst (λ m. ExactAt (p .cells) ss m k) d (ih (step-sound r cs s u e a) (step-plain r cs s u e f) k (omega arith)) q l
+
+-- the runs on A and on B end alike, and every bit known in a cell under A is the same under B
+pub record Alike (r : Room) (A B : List Vector) (ss : List Step) : Type 0 where
+  pub ending : machineRun r B ss .ending ≡ machineRun r A ss .ending
+  pub kept : AllKeep ss → Cellwise Keeps (machineRun r A ss .cells) (machineRun r B ss .cells)
 
 pub alike : (r : Room) (A B : List Vector) (ss : List Step) → AllSound A → Cellwise Refines A B → Alike r A B ss
 alike r A B ss a h = record {

@@ -1,7 +1,6 @@
 -- The result of an op on whole operands.
 --     width-again   a vector has as many bits as its header says, if one of the same header and width does
 --     op-keeps      a bit of the result that is known stays, if every bit of the operands that is known does
---     given-known   what a completion of the operands gives is known
 --     op-exact      a bit of the result is known as v exactly if all completions of the operands give v
 use mathlib.Core.Path.{_≡_, refl, sym, _∙_, subst, ap}
 use mathlib.Core.Bool.{Bool, true, false}
@@ -16,7 +15,7 @@ use Rattle.words.specs.Vector.{at}
 use Rattle.words.proofs.Digits.{lt-or-ge}
 use Rattle.value.specs.Checks.{Vector}
 use Rattle.ops.specs.declared.Op.{Op}
-use Rattle.ops.specs.Ops.{kindOf, armsRefused, opHeader, opBits, opVector}
+use Rattle.ops.specs.Ops.{familyOf, armsRefused, opHeader, opBits, opVector}
 use Rattle.ops.proofs.Results.{result-width}
 use Rattle.knownness.specs.Knownness.{keepsKnown, isExact, Known, Keeps, Completes, Pointwise, gives}
 use Rattle.knownness.proofs.Bits.{keeps-refl}
@@ -29,13 +28,13 @@ pub width-again : (R : LogicBit → LogicBit → Type 0) (a b : Vector) → Poin
     → length (b .bits) ≡ b .header .width
 width-again R a b h e = h .1 ∙ e ∙ ap (λ x. x .width) (sym (h .0))
 
-width : (op : Op) (pos : ℕ) (a b c : Vector) → Accepted (kindOf op) a b c
+width : (op : Op) (pos : ℕ) (a b c : Vector) → Accepted (familyOf op) a b c
     → length (opBits op a b c pos) ≡ opHeader op (a .header) (b .header) (c .header) .width
 width op pos a b c o = result-width a b c pos (o .first) (o .second) (o .third) op (o .arms)
 
-module _ (R : LogicBit → LogicBit → Type 0) (op : Op) (pos : ℕ) (a b c a′ b′ c′ : Vector) (o : Accepted (kindOf op) a b c)
+module _ (R : LogicBit → LogicBit → Type 0) (op : Op) (pos : ℕ) (a b c a′ b′ c′ : Vector) (o : Accepted (familyOf op) a b c)
     (ha : Pointwise R a a′) (hb : Pointwise R b b′) (hc : Pointwise R c c′) where
-  accepted-again : Accepted (kindOf op) a′ b′ c′
+  accepted-again : Accepted (familyOf op) a′ b′ c′
   accepted-again = record {
     first = width-again R a a′ ha (o .first);
     second = width-again R b b′ hb (o .second);
@@ -49,16 +48,12 @@ module _ (R : LogicBit → LogicBit → Type 0) (op : Op) (pos : ℕ) (a b c a�
   length-again : length (opBits op a′ b′ c′ pos) ≡ length (opBits op a b c pos)
   length-again = width op pos a′ b′ c′ accepted-again ∙ ap (λ x. x .width) header-again ∙ sym (width op pos a b c o)
 
-arm-known : (second : Bool) → Known (armBit second)
-arm-known true = tt
-arm-known false = tt
-
 completes-keeps : (a a′ : Vector) → Pointwise Completes a a′ → Pointwise Keeps a a′
 completes-keeps a a′ h = (h .0, h .1, λ i. h .2 i .1)
 
 -- ---- known bits are kept
 
-module _ (op : Op) (pos : ℕ) (a b c : Vector) (o : Accepted (kindOf op) a b c) where
+module _ (op : Op) (pos : ℕ) (a b c : Vector) (o : Accepted (familyOf op) a b c) where
   pub op-keeps : (a′ b′ c′ : Vector) → Pointwise Keeps a a′ → Pointwise Keeps b b′ → Pointwise Keeps c c′ → T (keepsKnown op)
       → Pointwise Keeps (opVector op a b c pos) (opVector op a′ b′ c′ pos)
   op-keeps a′ b′ c′ ha hb hc k = (header-again Keeps op pos a b c a′ b′ c′ o ha hb hc, same, kept)
@@ -66,15 +61,15 @@ module _ (op : Op) (pos : ℕ) (a b c : Vector) (o : Accepted (kindOf op) a b c)
       same : length (opBits op a′ b′ c′ pos) ≡ length (opBits op a b c pos)
       same = length-again Keeps op pos a b c a′ b′ c′ o ha hb hc
 
-      again : Accepted (kindOf op) a′ b′ c′
+      again : Accepted (familyOf op) a′ b′ c′
       again = accepted-again Keeps op pos a b c a′ b′ c′ o ha hb hc
 
       inner : (i : ℕ) → i < length (opBits op a b c pos) → Keeps (at (opBits op a b c pos) i) (at (opBits op a′ b′ c′ pos) i)
       inner i l =
-          let e = made-form a b c pos i (kindOf op) o l in
-          let e′ = made-form a′ b′ c′ pos i (kindOf op) again (subst (λ (n : ℕ). i < n) (sym same) l) in
+          let e = made-form a b c pos i (familyOf op) o l in
+          let e′ = made-form a′ b′ c′ pos i (familyOf op) again (subst (λ (n : ℕ). i < n) (sym same) l) in
           subst (λ (x : LogicBit). Keeps x (at (opBits op a′ b′ c′ pos) i)) (sym e)
-          (subst (Keeps (formAt (kindOf op) pos i X a b c)) (sym e′) (law pos i op k .mono X X a a′ b b′ c c′ (keeps-refl X) ha hb hc))
+          (subst (Keeps (formAt (familyOf op) pos i X a b c)) (sym e′) (law pos i op k .mono X X a a′ b b′ c c′ (keeps-refl X) ha hb hc))
 
       outer : (i : ℕ) → length (opBits op a b c pos) ≤ i → Keeps (at (opBits op a b c pos) i) (at (opBits op a′ b′ c′ pos) i)
       outer i l _ =
@@ -88,22 +83,16 @@ module _ (op : Op) (pos : ℕ) (a b c : Vector) (o : Accepted (kindOf op) a b c)
 
   module _ (k : T (isExact op)) (i : ℕ) (l : i < length (opBits op a b c pos)) where
     abbrev form : Form
-    form = formAt (kindOf op) pos i
+    form = formAt (familyOf op) pos i
 
     given : (a′ b′ c′ : Vector) → Pointwise Completes a a′ → Pointwise Completes b b′ → Pointwise Completes c c′ → (second : Bool)
         → gives op pos second a′ b′ c′ i ≡ form (armBit second) a′ b′ c′
     given a′ b′ c′ ha hb hc second =
-        given-form a′ b′ c′ pos i (kindOf op) (accepted-again Completes op pos a b c a′ b′ c′ o ha hb hc)
+        given-form a′ b′ c′ pos i (familyOf op) (accepted-again Completes op pos a b c a′ b′ c′ o ha hb hc)
         (subst (λ (n : ℕ). i < n) (sym (length-again Completes op pos a b c a′ b′ c′ o ha hb hc)) l) second
 
     exact : Exact (Proper op) form
     exact = law pos i op (exact-keeps op k) .exact k
-
-    pub given-known : (a′ b′ c′ : Vector) → Pointwise Completes a a′ → Pointwise Completes b b′ → Pointwise Completes c c′ → (second : Bool)
-        → Known (gives op pos second a′ b′ c′ i)
-    given-known a′ b′ c′ ha hb hc second =
-        subst Known (sym (given a′ b′ c′ ha hb hc second))
-        (exact .known (armBit second) a′ b′ c′ (arm-known second) (λ i. ha .2 i .0) (λ i. hb .2 i .0) (λ i. hc .2 i .0))
 
     module _ (v : LogicBit) (kv : Known v) where
       abbrev AllGiven : Type 0
@@ -111,7 +100,7 @@ module _ (op : Op) (pos : ℕ) (a b c : Vector) (o : Accepted (kindOf op) a b c)
           → gives op pos second a′ b′ c′ i ≡ v
 
       made : at (opBits op a b c pos) i ≡ form X a b c
-      made = made-form a b c pos i (kindOf op) o l
+      made = made-form a b c pos i (familyOf op) o l
 
       all-given : at (opBits op a b c pos) i ≡ v → AllGiven
       all-given e a′ b′ c′ ha hb hc second =

@@ -17,9 +17,9 @@ use Rattle.extension.specs.Extension.{operandAt}
 use Rattle.ops.specs.declared.Op.{Op}
 use Rattle.ops.specs.declared.Op.the-variants.{And, Or, Xor, Not, Merge, ReduceAnd, ReduceOr, ReduceXor, Equal, CaseEqual, CasezEqual, CasexEqual, WildcardEqual, LogicAnd, LogicOr, Select, Insert}
 use Rattle.ops.specs.declared.Step.{Step}
-use Rattle.ops.specs.declared.Kind.{Kind}
-use Rattle.ops.specs.declared.Kind.the-variants as kind
-use Rattle.ops.specs.Ops.{kindOf, opBits}
+use Rattle.ops.specs.declared.Family.{Family}
+use Rattle.ops.specs.declared.Family.the-variants as family
+use Rattle.ops.specs.Ops.{noStep, familyOf, opBits}
 use Rattle.machine.specs.Machine.{Room, cellAt, machineRun}
 
 -- ---- the ops
@@ -48,9 +48,7 @@ keepsKnown Insert = true
 abbrev pub isExact : Op → Bool
 isExact op = keepsKnown op
 
-abbrev pub noStep : Step
-noStep = record { op = And; a = 0; b = 0; c = 0 }
-
+-- step k of a list, from 0
 abbrev pub stepAt : List Step → ℕ → Step
 stepAt ss k = getD ss k noStep
 
@@ -95,15 +93,15 @@ NoFill cs = (j : ℕ) → T (not (cellAt cs j .header .«is_fill»))
 -- ---- a step that is known exactly
 
 -- an op whose arms are told apart
-abbrev pub merges : Kind → Bool
-merges (kind.Join bitwise.And) = false
-merges (kind.Join bitwise.Or) = false
-merges (kind.Join bitwise.Xor) = false
-merges (kind.Join bitwise.Merge) = true
-merges kind.Not = false
-merges (kind.Answer q) = false
-merges kind.Select = false
-merges kind.Insert = false
+abbrev pub merges : Family → Bool
+merges (family.Join bitwise.And) = false
+merges (family.Join bitwise.Or) = false
+merges (family.Join bitwise.Xor) = false
+merges (family.Join bitwise.Merge) = true
+merges family.Not = false
+merges (family.Answer q) = false
+merges family.Select = false
+merges family.Insert = false
 
 -- the arms of a merge are its two operands, extended
 abbrev pub armAt : (second : Bool) → Vector → Vector → ℕ → LogicBit
@@ -112,7 +110,7 @@ armAt false a b i = operandAt operator.Merge a (b .header) i
 
 -- what the op has at place i of the completed operands; in a merge, either arm
 abbrev pub gives : Op → ℕ → (second : Bool) → Vector → Vector → Vector → ℕ → LogicBit
-gives op pos second a b c i = cond (merges (kindOf op)) (armAt second a b i) (at (opBits op a b c pos) i)
+gives op pos second a b c i = cond (merges (familyOf op)) (armAt second a b i) (at (opBits op a b c pos) i)
 
 -- every completion of the operands, of each on its own even where two name one cell, gives v at place i
 abbrev pub AllGive : List Vector → Step → ℕ → LogicBit → Type 0
@@ -134,8 +132,3 @@ ExactStep cs s made = EqualWidths cs s → (i : ℕ) → i < length (made .bits)
 abbrev pub ExactRun : Room → List Vector → List Step → Type 0
 ExactRun r A ss = (k : ℕ) → k < length ss → length A + k < length (machineRun r A ss .cells) → T (isExact (stepAt ss k .op))
     → ExactStep (take (length A + k) (machineRun r A ss .cells)) (stepAt ss k) (cellAt (machineRun r A ss .cells) (length A + k))
-
--- the runs on A and on B end alike, and every bit known in a cell under A is the same under B
-pub record Alike (r : Room) (A B : List Vector) (ss : List Step) : Type 0 where
-  pub ending : machineRun r B ss .ending ≡ machineRun r A ss .ending
-  pub kept : AllKeep ss → Cellwise Keeps (machineRun r A ss .cells) (machineRun r B ss .cells)

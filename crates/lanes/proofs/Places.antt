@@ -8,19 +8,17 @@ use mathlib.Core.List.{List}
 use Prim.Native.Nat.{ℕ, _+_, _-_, _*_, _^_, _≤_, _<_, min}
 use native.Mathlib.Omega.{arith}
 use lib.Dec.{T}
-use lib.Bits.{bitAnd}
 use lib.ListN.{getD}
 use lib.Pow.{pow-pos}
 use Rattle.bit.specs.declared.LogicBit.{LogicBit}
 use Rattle.bit.specs.declared.LogicBit.the-variants.{Zero}
 use Rattle.words.specs.declared.Word.{Word}
-use Rattle.words.specs.Vector.{at, bitAt, tabulate, pack}
-use Rattle.words.specs.Planes.{valueDigit, unknownDigit, stored, planeBit, fromPlanes, packed, wordOf, wordAt, bitOf}
+use Rattle.words.specs.Vector.{at, tabulate, Written}
+use Rattle.words.specs.Planes.{valueDigit, unknownDigit, stored, planeBit, fromPlanes, wordOf, wordAt, bitOf, wordBy}
 use Rattle.words.proofs.Digits.{pack-cong}
 use Rattle.words.proofs.Planes.{getD-tabulate, plane-bit, value-digit-lt, unknown-digit-lt}
-use Rattle.words.proofs.Lanes.{Lane, word, gives, lane, pair}
-use Rattle.words.proofs.Extend.{wordBy, word-bit, cut-vector}
-use Rattle.words.proofs.Fill.{Written}
+use Rattle.words.proofs.Lanes.{Lane, word, gives, lane}
+use Rattle.words.proofs.Extend.{word-bit, cut-vector}
 use Rattle.lanes.specs.Lanes.{laneWord, laneOne, cutWord}
 
 pub both : (f : LogicBit → LogicBit → LogicBit) (v u : Lane) → T (gives v (λ a b. valueDigit (f a b))) → T (gives u (λ a b. unknownDigit (f a b)))
@@ -59,7 +57,7 @@ direct w v u b k h j l =
     ∙ sym (getD-tabulate w (λ i. stored (planeBit v i) (planeBit u i)) (k * 64 + j) b (omega arith))
 
 -- what is written up to k is written up to any m below it, and by any F that agrees there
-pub fewer : {F G : ℕ → ℕ} {n k : ℕ} {out : List ℕ} → Written F n k out → (m : ℕ) → m ≤ k → ((i : ℕ) → i < m → F i ≡ G i) → Written G n m out
+pub fewer : {F G : ℕ → ℕ} {n k : ℕ} {out : List ℕ} → Written 0 F n k out → (m : ℕ) → m ≤ k → ((i : ℕ) → i < m → F i ≡ G i) → Written 0 G n m out
 fewer h m l e = record { long = h .long; upto = λ i b. h .upto i (omega arith) ∙ e i b }
 
 -- word k of a vector, where it lies below the width

@@ -26,9 +26,10 @@ use Rattle.words.proofs.Planes.{length-tabulate}
 use Rattle.words.proofs.Lanes.{Lane, word, gives, lane}
 use Rattle.words.proofs.Lanes.Lane.{av, au, neg, and, or}
 use Rattle.fold.specs.declared.Truth.the-variants.{False, True, Unknown}
-use Rattle.fold.specs.Fold.{any, count, unknown, reduceAnd, reduceOr, reduceXor, truthOf}
-use Rattle.fold.proofs.Gather.{gather, gather-cong, of-list}
-use Rattle.fold.proofs.Places.{some, nonzero, WordPlanes}
+use Rattle.fold.specs.Fold.{any, count, isUnknown, reduceAnd, reduceOr, reduceXor, truthOf}
+use Rattle.fold.specs.Scanned.{some, gather}
+use Rattle.fold.proofs.Gather.{gather-cong, of-list}
+use Rattle.fold.proofs.Places.{nonzero, WordPlanes}
 use Rattle.fold.proofs.Parity as parity
 use Rattle.narrow.specs.Narrow.{single}
 use Rattle.narrow.proofs.Singles.{whole, at-most, placeOf, place}
@@ -85,7 +86,7 @@ module _ (x : Word) (hv : x .value < 2 ^ 64) (hu : x .unknown < 2 ^ 64) where
       → cond s True (cond u Unknown False) ≡ truthOf (vectorOf 64 (single x))
   truth-word s u e f =
       ap₂ (λ (s u : Bool). cond s True (cond u Unknown False))
-      (sym e ∙ any-word (same One) (and av (neg au)) tt x hv hu) (sym f ∙ any-word unknown au tt x hv hu)
+      (sym e ∙ any-word (same One) (and av (neg au)) tt x hv hu) (sym f ∙ any-word isUnknown au tt x hv hu)
 
   -- s: a known 0 stands below n; u: an unknown bit
   pub and-word : (n m : ℕ) → n ≤ 64 → m ≡ 2 ^ n - 1 → (s u : Bool)
@@ -93,7 +94,7 @@ module _ (x : Word) (hv : x .value < 2 ^ 64) (hu : x .unknown < 2 ^ 64) where
       → cond s Zero (cond u X One) ≡ reduceAnd (vectorOf n (single x))
   and-word n m h mask s u e f =
       ap₂ (λ (s u : Bool). cond s Zero (cond u X One))
-      (sym e ∙ any-low (same Zero) (neg (or av au)) tt x hv hu n m h mask) (sym f ∙ any-low unknown au tt x hv hu n m h mask)
+      (sym e ∙ any-low (same Zero) (neg (or av au)) tt x hv hu n m h mask) (sym f ∙ any-low isUnknown au tt x hv hu n m h mask)
 
   -- parity
   one-word-lt : (y : ℕ) → y < 2 ^ 64 → (k : ℕ) → getD (y ∷ []) k 0 < 2 ^ 64
@@ -140,10 +141,10 @@ module _ (w : ℕ) (x : Word) (hv : Plane w (x .value ∷ [])) (hu : Plane w (x 
   count-narrow p none = narrow _+_ 0 zero-add (count p) (λ b. mark (p b)) refl (λ b bs. refl) (ap mark none)
 
   pub or-narrow : reduceOr (vectorOf w (single x)) ≡ reduceOr (vectorOf 64 (single x))
-  or-narrow = ap₂ (λ (s u : Bool). cond s One (cond u X Zero)) (any-narrow (same One) refl) (any-narrow unknown refl)
+  or-narrow = ap₂ (λ (s u : Bool). cond s One (cond u X Zero)) (any-narrow (same One) refl) (any-narrow isUnknown refl)
 
   pub xor-narrow : reduceXor (vectorOf w (single x)) ≡ reduceXor (vectorOf 64 (single x))
-  xor-narrow = ap₂ (λ (u : Bool) (n : ℕ). cond u X (cond (eqb (n % 2) 0) Zero One)) (any-narrow unknown refl) (count-narrow (same One) refl)
+  xor-narrow = ap₂ (λ (u : Bool) (n : ℕ). cond u X (cond (eqb (n % 2) 0) Zero One)) (any-narrow isUnknown refl) (count-narrow (same One) refl)
 
   pub truth-narrow : truthOf (vectorOf w (single x)) ≡ truthOf (vectorOf 64 (single x))
-  truth-narrow = ap₂ (λ (s u : Bool). cond s True (cond u Unknown False)) (any-narrow (same One) refl) (any-narrow unknown refl)
+  truth-narrow = ap₂ (λ (s u : Bool). cond s True (cond u Unknown False)) (any-narrow (same One) refl) (any-narrow isUnknown refl)

@@ -15,10 +15,9 @@ use Rattle.bit.specs.declared.LogicBit.the-variants.{Zero}
 use Rattle.bit.specs.Rules.{notBit}
 use Rattle.words.specs.declared.Word.{Word}
 use Rattle.words.specs.Vector.{at, tabulate}
-use Rattle.words.specs.Planes.{stored, bitOf, vectorOf, planesOf, valueDigit, unknownDigit, Plane}
+use Rattle.words.specs.Planes.{stored, bitOf, vectorOf, planesOf, valueDigit, unknownDigit, Plane, wordBy}
 use Rattle.words.proofs.Digits.{pack-cong, lt-or-ge}
 use Rattle.words.proofs.Planes.{getD-tabulate, getD-tabulate-out, length-tabulate, eq-tabulate, operand}
-use Rattle.words.proofs.Extend.{wordBy}
 use Rattle.value.specs.declared.Header.{Header}
 use Rattle.value.specs.Checks.{vector}
 use Rattle.value.specs.Constructors.{plain}

@@ -1,5 +1,5 @@
 // Word forms of the operators, for vectors of at most 64 bits: a word of each plane in, a word pair or an answer out. Nothing is asked of the
-// words; bits at or above a width are not seen.
+// words: a form that takes a width does not see the bits at or above it, the others see all 64 places.
 use bit::LogicBit;
 use fold::Truth;
 use lanes::Bitwise;

@@ -13,10 +13,9 @@ use Rattle.text.specs.Read.{Got, next, lineEnd}
 use Rattle.text.specs.Read.Got.{found, broken}
 use Rattle.text.specs.Answers.{lineIn}
 use Rattle.text.specs.declared.Line.the-variants.{Number, Broken}
-use Rattle.text.specs.Write.{nameText}
 use Rattle.text.specs.Exact.{Exact}
 use Rattle.text.proofs.Exact.{next-found, after-key, rest-of}
-use Rattle.text.proofs.Names.{distinct, oneOf-exact}
+use Rattle.text.proofs.Names.{distinct, nameText, oneOf-exact}
 use Rattle.ops.specs.declared.Op.{Op}
 use Rattle.ops.specs.declared.Op.the-variants.{And, Or, Xor, Not, Merge, ReduceAnd, ReduceOr, ReduceXor, Equal, CaseEqual, CasezEqual, CasexEqual, WildcardEqual, LogicAnd, LogicOr, Select, Insert}
 use Rattle.opline.specs.OpLine.{nameLine, choiceLine, opKey, opName, allOps, opLine}

@@ -8,9 +8,9 @@ use Rattle.text.specs.Read.{Got, next, key, oneOf}
 use Rattle.text.specs.Read.Got.{found}
 use Rattle.ops.specs.declared.Op.{Op}
 use Rattle.ops.specs.declared.Op.the-variants.{And, Or, Xor, Not, Merge, ReduceAnd, ReduceOr, ReduceXor, Equal, CaseEqual, CasezEqual, CasexEqual, WildcardEqual, LogicAnd, LogicOr, Select, Insert}
-use Rattle.ops.specs.declared.Kind.{Kind}
-use Rattle.ops.specs.declared.Kind.the-variants as kind
-use Rattle.ops.specs.Ops.{kindOf, questionOperands}
+use Rattle.ops.specs.declared.Family.{Family}
+use Rattle.ops.specs.declared.Family.the-variants as family
+use Rattle.ops.specs.Ops.{familyOf, questionOperands}
 
 -- ---- a line of a key and one of several names
 
@@ -57,15 +57,15 @@ opLine = choiceLine opKey opName allOps And
 -- ---- the numbers of a step
 
 -- how many of a, b and c an op uses, the first ones: the cells that it names, and the position of insert
-abbrev pub kindUses : Kind → ℕ
-kindUses (kind.Join j) = 2
-kindUses kind.Not = 1
-kindUses (kind.Answer q) = questionOperands q
-kindUses kind.Select = 3
-kindUses kind.Insert = 3
+abbrev pub familyUses : Family → ℕ
+familyUses (family.Join j) = 2
+familyUses family.Not = 1
+familyUses (family.Answer q) = questionOperands q
+familyUses family.Select = 3
+familyUses family.Insert = 3
 
 abbrev pub uses : Op → ℕ
-uses op = kindUses (kindOf op)
+uses op = familyUses (familyOf op)
 
 -- the largest number that the i-th of a, b and c may be, from 0: an unused one is 0
 abbrev pub largest : Op → ℕ → ℕ

@@ -1,5 +1,5 @@
 // The line op= of a step, and which of the numbers of a step its op uses.
-use ops::Kind;
+use ops::Family;
 use ops::Op;
 use text::Line;
 use text::Place;
@@ -59,12 +59,12 @@ pub fn op_line(s: &[u8], at: usize) -> OpRead
 pub fn uses(op: Op) -> usize
     ensures { λ r. ⌜ r ≡ usesOf op ⌝ }
 {
-    match ops::kind_of(op) {
-        Kind::Join(_) => 2,
-        Kind::Not => 1,
-        Kind::Answer(_) => ops::operand_count(op),
-        Kind::Select => 3,
-        Kind::Insert => 3,
+    match ops::family_of(op) {
+        Family::Join(_) => 2,
+        Family::Not => 1,
+        Family::Answer(_) => ops::operand_count(op),
+        Family::Select => 3,
+        Family::Insert => 3,
     }
 }
 

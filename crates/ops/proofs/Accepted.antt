@@ -12,26 +12,26 @@ use Rattle.value.specs.declared.Header.{Header}
 use Rattle.value.specs.Checks.{vector}
 use Rattle.value.proofs.Checks.{Sound}
 use Rattle.ops.specs.declared.Op.{Op}
-use Rattle.ops.specs.declared.Kind.{Kind}
-use Rattle.ops.specs.declared.Kind.the-variants as kind
-use Rattle.ops.specs.Ops.{kindOf, armsRefused, kindHeader, opHeader, opBits}
+use Rattle.ops.specs.declared.Family.{Family}
+use Rattle.ops.specs.declared.Family.the-variants as family
+use Rattle.ops.specs.Ops.{familyOf, armsRefused, familyHeader, opHeader, opBits}
 use Rattle.ops.proofs.Results.{result-width}
 
 module _ (a b c : Header) (p q r : Planes) (pos : ℕ) (ha : Sound a p) (hb : Sound b q) (hc : Sound c r) where
-  narrow : (k : Kind) → kindHeader k a b c .width ≤ maxWidth
-  narrow (kind.Join j) = omega (arith, ha .planes .narrow, hb .planes .narrow)
-  narrow kind.Not = ha .planes .narrow
-  narrow (kind.Answer q) = omega arith
-  narrow kind.Select = hb .planes .narrow
-  narrow kind.Insert = ha .planes .narrow
+  narrow : (k : Family) → familyHeader k a b c .width ≤ maxWidth
+  narrow (family.Join j) = omega (arith, ha .planes .narrow, hb .planes .narrow)
+  narrow family.Not = ha .planes .narrow
+  narrow (family.Answer q) = omega arith
+  narrow family.Select = hb .planes .narrow
+  narrow family.Insert = ha .planes .narrow
 
   -- only insert gives a fill, which has the width of its operand
-  no-empty-fill : (k : Kind) → kindHeader k a b c .«is_fill» ≡ true → kindHeader k a b c .width ≡ 0 → ⊥
-  no-empty-fill (kind.Join j) e z = subst T (sym e) tt
-  no-empty-fill kind.Not e z = subst T (sym e) tt
-  no-empty-fill (kind.Answer q) e z = subst T (sym e) tt
-  no-empty-fill kind.Select e z = subst T (sym e) tt
-  no-empty-fill kind.Insert e z = ha .fill e z
+  no-empty-fill : (k : Family) → familyHeader k a b c .«is_fill» ≡ true → familyHeader k a b c .width ≡ 0 → ⊥
+  no-empty-fill (family.Join j) e z = subst T (sym e) tt
+  no-empty-fill family.Not e z = subst T (sym e) tt
+  no-empty-fill (family.Answer q) e z = subst T (sym e) tt
+  no-empty-fill family.Select e z = subst T (sym e) tt
+  no-empty-fill family.Insert e z = ha .fill e z
 
   pub result-sound : (op : Op) → armsRefused op b c ≡ false
       → Sound (opHeader op a b c) (planesOf (opBits op (vector a p) (vector b q) (vector c r) pos))
@@ -41,9 +41,9 @@ module _ (a b c : Header) (p q r : Planes) (pos : ℕ) (ha : Sound a p) (hb : So
       result-width (vector a p) (vector b q) (vector c r) pos (length-tabulate _ _) (length-tabulate _ _) (length-tabulate _ _) op h in
       record {
         planes = record {
-          narrow = narrow (kindOf op);
+          narrow = narrow (familyOf op);
           value-plane = subst (λ (w : ℕ). Plane w (valuePlane bs)) e (value-plane bs);
           unknown-plane = subst (λ (w : ℕ). Plane w (unknownPlane bs)) e (unknown-plane bs);
         };
-        fill = no-empty-fill (kindOf op);
+        fill = no-empty-fill (familyOf op);
       }

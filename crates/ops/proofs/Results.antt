@@ -15,9 +15,9 @@ use Rattle.fold.specs.declared.Truth.{Truth}
 use Rattle.fold.specs.declared.Truth.the-variants as truth
 use Rattle.fold.specs.Fold.{truthOf}
 use Rattle.ops.specs.declared.Op.{Op}
-use Rattle.ops.specs.declared.Kind.{Kind}
-use Rattle.ops.specs.declared.Kind.the-variants as kind
-use Rattle.ops.specs.Ops.{kindOf, armsDiffer, kindRefused, armsRefused, kindHeader, kindBits, selected, opVector}
+use Rattle.ops.specs.declared.Family.{Family}
+use Rattle.ops.specs.declared.Family.the-variants as family
+use Rattle.ops.specs.Ops.{familyOf, armsDiffer, familyRefused, armsRefused, familyHeader, familyBits, selected, opVector}
 
 pub arms-alike : (b c : Header) → armsDiffer b c ≡ false → c .width ≡ b .width
 arms-alike b c h = go (eqb (b .width) (c .width)) refl
@@ -32,14 +32,14 @@ module _ (a b c : Vector) (pos : ℕ) (ha : length (a .bits) ≡ a .header .widt
   select-width truth.False h = hc ∙ arms-alike (b .header) (c .header) h
   select-width truth.Unknown h = length-tabulate _ _ ∙ omega (arith, arms-alike (b .header) (c .header) h)
 
-  kind-width : (k : Kind) → kindRefused k (b .header) (c .header) ≡ false
-      → length (kindBits k a b c pos) ≡ kindHeader k (a .header) (b .header) (c .header) .width
-  kind-width (kind.Join j) h = length-tabulate _ _
-  kind-width kind.Not h = length-tabulate _ _ ∙ ha
-  kind-width (kind.Answer q) h = refl
-  kind-width kind.Select h = select-width (truthOf (a .bits)) h
-  kind-width kind.Insert h = length-tabulate _ _ ∙ ha
+  family-width : (k : Family) → familyRefused k (b .header) (c .header) ≡ false
+      → length (familyBits k a b c pos) ≡ familyHeader k (a .header) (b .header) (c .header) .width
+  family-width (family.Join j) h = length-tabulate _ _
+  family-width family.Not h = length-tabulate _ _ ∙ ha
+  family-width (family.Answer q) h = refl
+  family-width family.Select h = select-width (truthOf (a .bits)) h
+  family-width family.Insert h = length-tabulate _ _ ∙ ha
 
   pub result-width : (op : Op) → armsRefused op (b .header) (c .header) ≡ false
       → length (opVector op a b c pos .bits) ≡ opVector op a b c pos .header .width
-  result-width op h = kind-width (kindOf op) h
+  result-width op h = family-width (familyOf op) h

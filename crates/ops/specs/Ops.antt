@@ -22,30 +22,35 @@ use Rattle.scan.specs.declared.Comparison.the-variants as comparison
 use Rattle.scan.specs.Compared.{compared}
 use Rattle.ops.specs.declared.Op.{Op}
 use Rattle.ops.specs.declared.Op.the-variants.{And, Or, Xor, Not, Merge, ReduceAnd, ReduceOr, ReduceXor, Equal, CaseEqual, CasezEqual, CasexEqual, WildcardEqual, LogicAnd, LogicOr, Select, Insert}
+use Rattle.ops.specs.declared.Step.{Step}
 use Rattle.ops.specs.declared.Question.{Question}
 use Rattle.ops.specs.declared.Question.the-variants as question
-use Rattle.ops.specs.declared.Kind.{Kind}
-use Rattle.ops.specs.declared.Kind.the-variants as kind
+use Rattle.ops.specs.declared.Family.{Family}
+use Rattle.ops.specs.declared.Family.the-variants as family
+
+-- what a number past the end of a list's steps reads
+abbrev pub noStep : Step
+noStep = record { op = And; a = 0; b = 0; c = 0 }
 
 -- and, or, xor and merge join two vectors; an op of "Answer bit" asks a question
-abbrev pub kindOf : Op → Kind
-kindOf And = kind.Join bitwise.And
-kindOf Or = kind.Join bitwise.Or
-kindOf Xor = kind.Join bitwise.Xor
-kindOf Not = kind.Not
-kindOf Merge = kind.Join bitwise.Merge
-kindOf ReduceAnd = kind.Answer question.ReduceAnd
-kindOf ReduceOr = kind.Answer question.ReduceOr
-kindOf ReduceXor = kind.Answer question.ReduceXor
-kindOf Equal = kind.Answer (question.Compare comparison.Equal)
-kindOf CaseEqual = kind.Answer (question.Compare comparison.CaseEqual)
-kindOf CasezEqual = kind.Answer (question.Compare comparison.CasezEqual)
-kindOf CasexEqual = kind.Answer (question.Compare comparison.CasexEqual)
-kindOf WildcardEqual = kind.Answer (question.Compare comparison.WildcardEqual)
-kindOf LogicAnd = kind.Answer question.LogicAnd
-kindOf LogicOr = kind.Answer question.LogicOr
-kindOf Select = kind.Select
-kindOf Insert = kind.Insert
+abbrev pub familyOf : Op → Family
+familyOf And = family.Join bitwise.And
+familyOf Or = family.Join bitwise.Or
+familyOf Xor = family.Join bitwise.Xor
+familyOf Not = family.Not
+familyOf Merge = family.Join bitwise.Merge
+familyOf ReduceAnd = family.Answer question.ReduceAnd
+familyOf ReduceOr = family.Answer question.ReduceOr
+familyOf ReduceXor = family.Answer question.ReduceXor
+familyOf Equal = family.Answer (question.Compare comparison.Equal)
+familyOf CaseEqual = family.Answer (question.Compare comparison.CaseEqual)
+familyOf CasezEqual = family.Answer (question.Compare comparison.CasezEqual)
+familyOf CasexEqual = family.Answer (question.Compare comparison.CasexEqual)
+familyOf WildcardEqual = family.Answer (question.Compare comparison.WildcardEqual)
+familyOf LogicAnd = family.Answer question.LogicAnd
+familyOf LogicOr = family.Answer question.LogicOr
+familyOf Select = family.Select
+familyOf Insert = family.Insert
 
 -- ---- how many cells an op names
 
@@ -59,15 +64,15 @@ questionOperands question.LogicAnd = 2
 questionOperands question.LogicOr = 2
 
 -- the c of insert is a position
-abbrev pub kindOperands : Kind → ℕ
-kindOperands (kind.Join j) = 2
-kindOperands kind.Not = 1
-kindOperands (kind.Answer q) = questionOperands q
-kindOperands kind.Select = 3
-kindOperands kind.Insert = 2
+abbrev pub familyOperands : Family → ℕ
+familyOperands (family.Join j) = 2
+familyOperands family.Not = 1
+familyOperands (family.Answer q) = questionOperands q
+familyOperands family.Select = 3
+familyOperands family.Insert = 2
 
 abbrev pub operands : Op → ℕ
-operands op = kindOperands (kindOf op)
+operands op = familyOperands (familyOf op)
 
 -- ---- "Numbers for what is not done", 7
 
@@ -76,15 +81,15 @@ abbrev pub armsDiffer : Header → Header → Bool
 armsDiffer b c = not (eqb (b .width) (c .width)) || (b .«is_fill» || c .«is_fill»)
 
 -- only select has arms
-abbrev pub kindRefused : Kind → Header → Header → Bool
-kindRefused (kind.Join j) b c = false
-kindRefused kind.Not b c = false
-kindRefused (kind.Answer q) b c = false
-kindRefused kind.Select b c = armsDiffer b c
-kindRefused kind.Insert b c = false
+abbrev pub familyRefused : Family → Header → Header → Bool
+familyRefused (family.Join j) b c = false
+familyRefused family.Not b c = false
+familyRefused (family.Answer q) b c = false
+familyRefused family.Select b c = armsDiffer b c
+familyRefused family.Insert b c = false
 
 abbrev pub armsRefused : Op → Header → Header → Bool
-armsRefused op b c = kindRefused (kindOf op) b c
+armsRefused op b c = familyRefused (familyOf op) b c
 
 -- ---- the header of the result, by the headers of the operands alone
 
@@ -93,15 +98,15 @@ abbrev pub selectHeader : Header → Header → Header
 selectHeader b c = record { width = b .width; «is_signed» = b .«is_signed» && c .«is_signed»; «is_fill» = false }
 
 -- an answer is unsigned and has one bit; insert keeps the header, a fill stays a fill
-abbrev pub kindHeader : Kind → Header → Header → Header → Header
-kindHeader (kind.Join j) a b c = resultHeader j a b
-kindHeader kind.Not a b c = notHeader a
-kindHeader (kind.Answer q) a b c = plain 1
-kindHeader kind.Select a b c = selectHeader b c
-kindHeader kind.Insert a b c = a
+abbrev pub familyHeader : Family → Header → Header → Header → Header
+familyHeader (family.Join j) a b c = resultHeader j a b
+familyHeader family.Not a b c = notHeader a
+familyHeader (family.Answer q) a b c = plain 1
+familyHeader family.Select a b c = selectHeader b c
+familyHeader family.Insert a b c = a
 
 abbrev pub opHeader : Op → Header → Header → Header → Header
-opHeader op a b c = kindHeader (kindOf op) a b c
+opHeader op a b c = familyHeader (familyOf op) a b c
 
 -- ---- the bits of the result
 
@@ -129,16 +134,16 @@ abbrev pub inserted : Vector → Vector → ℕ → List LogicBit
 inserted a b pos = spliced (a .bits) pos (b .header .width) (packed (at (b .bits)))
 
 -- "Result vector" for the ops that join, and for not
-abbrev pub kindBits : Kind → Vector → Vector → Vector → ℕ → List LogicBit
-kindBits (kind.Join j) a b c pos = joined j a b
-kindBits kind.Not a b c pos = inverted (a .bits)
-kindBits (kind.Answer q) a b c pos = answerBit q a b ∷ []
-kindBits kind.Select a b c pos = selected (truthOf (a .bits)) b c
-kindBits kind.Insert a b c pos = inserted a b pos
+abbrev pub familyBits : Family → Vector → Vector → Vector → ℕ → List LogicBit
+familyBits (family.Join j) a b c pos = joined j a b
+familyBits family.Not a b c pos = inverted (a .bits)
+familyBits (family.Answer q) a b c pos = answerBit q a b ∷ []
+familyBits family.Select a b c pos = selected (truthOf (a .bits)) b c
+familyBits family.Insert a b c pos = inserted a b pos
 
 -- the last argument is the position of insert, c as a number
 abbrev pub opBits : Op → Vector → Vector → Vector → ℕ → List LogicBit
-opBits op a b c pos = kindBits (kindOf op) a b c pos
+opBits op a b c pos = familyBits (familyOf op) a b c pos
 
 abbrev pub opVector : Op → Vector → Vector → Vector → ℕ → Vector
 opVector op a b c pos = record { header = opHeader op (a .header) (b .header) (c .header); bits = opBits op a b c pos }

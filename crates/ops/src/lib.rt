@@ -3,7 +3,7 @@ use lanes::Bitwise;
 use scan::Comparison;
 use value::Header;
 ghost use mathlib.Core.Path.{_≡_};
-ghost use Rattle.ops.specs.Ops.{kindOf, operands, armsDiffer, armsRefused, opHeader};
+ghost use Rattle.ops.specs.Ops.{familyOf, operands, armsDiffer, armsRefused, opHeader};
 
 // The ops of a step list.
 pub enum Op {
@@ -45,7 +45,7 @@ pub enum Question {
 }
 
 // The ops by how they are worked out.
-pub enum Kind {
+pub enum Family {
     Join(Bitwise),
     Not,
     Answer(Question),
@@ -54,27 +54,27 @@ pub enum Kind {
 }
 
 // How an op is worked out: the one place that tells all ops apart.
-pub fn kind_of(op: Op) -> Kind
-    ensures { λ r. ⌜ r ≡ kindOf op ⌝ }
+pub fn family_of(op: Op) -> Family
+    ensures { λ r. ⌜ r ≡ familyOf op ⌝ }
 {
     match op {
-        Op::And => Kind::Join(Bitwise::And),
-        Op::Or => Kind::Join(Bitwise::Or),
-        Op::Xor => Kind::Join(Bitwise::Xor),
-        Op::Not => Kind::Not,
-        Op::Merge => Kind::Join(Bitwise::Merge),
-        Op::ReduceAnd => Kind::Answer(Question::ReduceAnd),
-        Op::ReduceOr => Kind::Answer(Question::ReduceOr),
-        Op::ReduceXor => Kind::Answer(Question::ReduceXor),
-        Op::Equal => Kind::Answer(Question::Compare(Comparison::Equal)),
-        Op::CaseEqual => Kind::Answer(Question::Compare(Comparison::CaseEqual)),
-        Op::CasezEqual => Kind::Answer(Question::Compare(Comparison::CasezEqual)),
-        Op::CasexEqual => Kind::Answer(Question::Compare(Comparison::CasexEqual)),
-        Op::WildcardEqual => Kind::Answer(Question::Compare(Comparison::WildcardEqual)),
-        Op::LogicAnd => Kind::Answer(Question::LogicAnd),
-        Op::LogicOr => Kind::Answer(Question::LogicOr),
-        Op::Select => Kind::Select,
-        Op::Insert => Kind::Insert,
+        Op::And => Family::Join(Bitwise::And),
+        Op::Or => Family::Join(Bitwise::Or),
+        Op::Xor => Family::Join(Bitwise::Xor),
+        Op::Not => Family::Not,
+        Op::Merge => Family::Join(Bitwise::Merge),
+        Op::ReduceAnd => Family::Answer(Question::ReduceAnd),
+        Op::ReduceOr => Family::Answer(Question::ReduceOr),
+        Op::ReduceXor => Family::Answer(Question::ReduceXor),
+        Op::Equal => Family::Answer(Question::Compare(Comparison::Equal)),
+        Op::CaseEqual => Family::Answer(Question::Compare(Comparison::CaseEqual)),
+        Op::CasezEqual => Family::Answer(Question::Compare(Comparison::CasezEqual)),
+        Op::CasexEqual => Family::Answer(Question::Compare(Comparison::CasexEqual)),
+        Op::WildcardEqual => Family::Answer(Question::Compare(Comparison::WildcardEqual)),
+        Op::LogicAnd => Family::Answer(Question::LogicAnd),
+        Op::LogicOr => Family::Answer(Question::LogicOr),
+        Op::Select => Family::Select,
+        Op::Insert => Family::Insert,
     }
 }
 
@@ -82,10 +82,10 @@ pub fn kind_of(op: Op) -> Kind
 pub fn operand_count(op: Op) -> usize
     ensures { λ r. ⌜ r ≡ operands op ⌝ }
 {
-    match kind_of(op) {
-        Kind::Join(_) => 2,
-        Kind::Not => 1,
-        Kind::Answer(q) => match q {
+    match family_of(op) {
+        Family::Join(_) => 2,
+        Family::Not => 1,
+        Family::Answer(q) => match q {
             Question::ReduceAnd => 1,
             Question::ReduceOr => 1,
             Question::ReduceXor => 1,
@@ -93,8 +93,8 @@ pub fn operand_count(op: Op) -> usize
             Question::LogicAnd => 2,
             Question::LogicOr => 2,
         },
-        Kind::Select => 3,
-        Kind::Insert => 2,
+        Family::Select => 3,
+        Family::Insert => 2,
     }
 }
 
@@ -112,12 +112,12 @@ fn arms_differ(b: Header, c: Header) -> bool
 pub fn arms_refused(op: Op, b: Header, c: Header) -> bool
     ensures { λ r. ⌜ r ≡ armsRefused op b c ⌝ }
 {
-    match kind_of(op) {
-        Kind::Join(_) => false,
-        Kind::Not => false,
-        Kind::Answer(_) => false,
-        Kind::Select => arms_differ(b, c),
-        Kind::Insert => false,
+    match family_of(op) {
+        Family::Join(_) => false,
+        Family::Not => false,
+        Family::Answer(_) => false,
+        Family::Select => arms_differ(b, c),
+        Family::Insert => false,
     }
 }
 
@@ -125,19 +125,19 @@ pub fn arms_refused(op: Op, b: Header, c: Header) -> bool
 pub fn result_header(op: Op, a: Header, b: Header, c: Header) -> Header
     ensures { λ r. ⌜ r ≡ opHeader op a b c ⌝ }
 {
-    match kind_of(op) {
-        Kind::Join(j) => bitwise::result_header(j, a, b),
-        Kind::Not => Header {
+    match family_of(op) {
+        Family::Join(j) => bitwise::result_header(j, a, b),
+        Family::Not => Header {
             width: a.width,
             is_signed: a.is_signed,
             is_fill: false,
         },
-        Kind::Answer(_) => value::plain_header(1),
-        Kind::Select => Header {
+        Family::Answer(_) => value::plain_header(1),
+        Family::Select => Header {
             width: b.width,
             is_signed: b.is_signed & c.is_signed,
             is_fill: false,
         },
-        Kind::Insert => a,
+        Family::Insert => a,
     }
 }

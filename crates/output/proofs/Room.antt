@@ -10,11 +10,11 @@ use native.Mathlib.Omega.{arith}
 use lib.ListN.{length, length-append}
 use Rattle.bit.specs.declared.LogicBit.{LogicBit}
 use Rattle.words.proofs.Digits.{lt-or-ge}
-use Rattle.text.specs.Read.{lineEnd}
+use Rattle.text.specs.Read.{lineEnd, bitsKey}
 use Rattle.text.specs.Write.{texts, decimal, numberText, bitText, bitsText}
 use Rattle.text.proofs.Decimal.{decimal-digit}
 use Rattle.lines.proofs.Put.{length-line, length-decimal, length-bits}
-use Rattle.output.specs.Output.{cellKey, bitsKey, doneKey, refusedKey, stepKey, cellText, doneText, refusedText}
+use Rattle.output.specs.Output.{cellKey, doneKey, refusedKey, stepKey, cellText, doneText, refusedText}
 
 decimal-one : (n : ℕ) → n < 10 → length (decimal n) ≤ 1
 decimal-one n h = omega (arith, ap length (decimal-digit n h))

@@ -2,15 +2,12 @@
 use Prim.Native.Nat.{ℕ}
 use mathlib.Core.List.{List, [], _∷_, _++_}
 use Rattle.bit.specs.declared.LogicBit.{LogicBit}
+use Rattle.text.specs.Read.{bitsKey}
 use Rattle.text.specs.Write.{numberText, bitsText}
 
 -- `cell=`
 abbrev pub cellKey : List ℕ
 cellKey = 99 ∷ 101 ∷ 108 ∷ 108 ∷ 61 ∷ []
-
--- `bits=`
-abbrev pub bitsKey : List ℕ
-bitsKey = 98 ∷ 105 ∷ 116 ∷ 115 ∷ 61 ∷ []
 
 -- `done=`
 abbrev pub doneKey : List ℕ

@@ -1,4 +1,5 @@
--- What the entries of `planes` give: the answer, and the lent planes as the call leaves them.
+-- Document 01, "Planes" and "Numbers for what is not done": what the entries of `planes` give, the answer and the lent planes as the call
+-- leaves them.
 use mathlib.Core.Bool.{_&&_, cond}
 use mathlib.Core.List.{List}
 use Prim.Native.Nat.{ℕ}

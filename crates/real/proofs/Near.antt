@@ -9,7 +9,7 @@ use native.Mathlib.Omega.{arith}
 use lib.Dec.{T, isLe, isEq, eqb, leb→le, nleb→lt, eqb→eq, eqb-refl}
 use lib.Arith.{lt-of-le-ne}
 use lib.Ieee.Nearest.{div-same}
-use Rattle.real.specs.Round.{stepped, wholeNear}
+use Rattle.real.specs.Round.{wholeBy, wholeNear}
 
 -- ---- what `compare` says
 
@@ -63,15 +63,15 @@ pub near-same : (a b c d : ℕ) → 0 < b → 0 < d → a * d ≡ c * b → whol
 near-same a b c d B D e =
     let w : a / b ≡ c / d = div-same a b c d B D e in
     let r : a % b * 2 * d ≡ c % d * 2 * b = mul-right-comm (a % b) 2 d ∙ ap (λ (x : ℕ). x * 2) (rest-same a b c d w e) ∙ mul-right-comm (c % d) b 2 in
-    ap₂ stepped w (sym (compare-scaled (a % b * 2) b d D) ∙ ap₂ compare r (mul-comm b d) ∙ compare-scaled (c % d * 2) d b B)
+    ap₂ wholeBy w (sym (compare-scaled (a % b * 2) b d D) ∙ ap₂ compare r (mul-comm b d) ∙ compare-scaled (c % d * 2) d b B)
 
 pub near-zero : (a b : ℕ) → a * 2 < b → wholeNear a b ≡ 0
 near-zero a b h =
     let l : a < b = omega arith in
-    ap₂ stepped (div-eq-of-lt l) (ap (λ (r : ℕ). compare (r * 2) b) (mod-eq-of-lt l) ∙ compare-is Ordering·lt (a * 2) b h)
+    ap₂ wholeBy (div-eq-of-lt l) (ap (λ (r : ℕ). compare (r * 2) b) (mod-eq-of-lt l) ∙ compare-is Ordering·lt (a * 2) b h)
 
 pub near-whole : (n : ℕ) → wholeNear n 1 ≡ n
 near-whole n =
     let e : n / 1 ≡ n = omega arith in
     let z : n % 1 ≡ 0 = omega arith in
-    ap₂ stepped e (ap (λ (r : ℕ). compare (r * 2) 1) z)
+    ap₂ wholeBy e (ap (λ (r : ℕ). compare (r * 2) 1) z)

@@ -22,14 +22,14 @@ abbrev pub atHalf : ℕ → ℕ
 atHalf q = suc q
 
 -- q or q + 1, by how the rest compares with a half
-abbrev pub stepped : ℕ → Ordering → ℕ
-stepped q Ordering·lt = q
-stepped q Ordering·eq = atHalf q
-stepped q Ordering·gt = suc q
+abbrev pub wholeBy : ℕ → Ordering → ℕ
+wholeBy q Ordering·lt = q
+wholeBy q Ordering·eq = atHalf q
+wholeBy q Ordering·gt = suc q
 
 -- the whole number nearest to a / b
 abbrev pub wholeNear : ℕ → ℕ → ℕ
-wholeNear a b = stepped (a / b) (compare (a % b * 2) b)
+wholeNear a b = wholeBy (a / b) (compare (a % b * 2) b)
 
 -- the integer of a sign and a size
 abbrev pub signedBy : Bool → ℕ → ℤ

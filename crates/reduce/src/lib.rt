@@ -1,4 +1,4 @@
-// Answers of one bit from one vector: the reductions, truth, and the logical operators on truths.
+// Answers of one bit: the reductions of a vector, the truth of an operand, and the logical operators on the truths of two.
 use fold::Truth;
 use fold::inner::and_bits;
 use fold::inner::or_bits;

@@ -15,16 +15,17 @@ use Rattle.bit.specs.declared.LogicBit.{LogicBit}
 use Rattle.bit.specs.declared.LogicBit.the-variants.{Zero, One, X, Z}
 use Rattle.bit.specs.Rules.{same, notBit, xorBit}
 use Rattle.words.specs.Vector.{tabulate}
-use Rattle.words.specs.Planes.{Planes, lent}
+use Rattle.words.specs.Planes.{lent}
 use Rattle.value.specs.declared.Header.{Header}
 use Rattle.value.specs.Checks.{Vector, vector}
-use Rattle.fold.specs.Fold.{any, unknown, reduceAnd}
+use Rattle.fold.specs.Fold.{any, isUnknown, reduceAnd}
+use Rattle.fold.specs.Scanned.{Scanned}
 use Rattle.fold.proofs.Gather.{gather-cong}
 use Rattle.fold.proofs.Places.{any-tabulate}
-use Rattle.fold.proofs.Scan.{Scanned, none-left, open-told}
+use Rattle.fold.proofs.Scan.{none-left, open-told}
 use Rattle.extension.specs.declared.Extent.{Extent}
 use Rattle.extension.specs.declared.Operator.{Operator}
-use Rattle.extension.specs.Extension.{larger, operandAt, extentOf}
+use Rattle.extension.specs.Extension.{largerWidth, operandAt, extentOf}
 use Rattle.extension.proofs.Extension.{extent-at, extent-narrow}
 use Rattle.scan.specs.declared.Comparison.{Comparison}
 use Rattle.scan.specs.declared.Comparison.the-variants.{Equal, CaseEqual, CasezEqual, CasexEqual, WildcardEqual}
@@ -105,7 +106,7 @@ module _ (op : Comparison) (ps : List (LogicBit × LogicBit)) where
 
 -- ---- equality as a reduction
 
-same-or-x : (a b : LogicBit) → (mismatch Equal a b ≡ same Zero (notBit (xorBit a b))) × (unsure Equal a b ≡ unknown (notBit (xorBit a b)))
+same-or-x : (a b : LogicBit) → (mismatch Equal a b ≡ same Zero (notBit (xorBit a b))) × (unsure Equal a b ≡ isUnknown (notBit (xorBit a b)))
 same-or-x Zero Zero = (refl, refl)
 same-or-x Zero One = (refl, refl)
 same-or-x Zero X = (refl, refl)
@@ -132,11 +133,11 @@ module _ (n : ℕ) (f g : ℕ → LogicBit) where
   equal-and =
       ap₂ (λ (x y : Bool). cond x Zero (cond y X One))
       (through (mismatch Equal) (same Zero) (λ i. same-or-x (f i) (g i) .0))
-      (through (unsure Equal) unknown (λ i. same-or-x (f i) (g i) .1))
+      (through (unsure Equal) isUnknown (λ i. same-or-x (f i) (g i) .1))
 
 pub compared-and : (a b : Vector) → compared Equal a b
     ≡ reduceAnd
-    (tabulate (larger (a .header) (b .header))
+    (tabulate (largerWidth (a .header) (b .header))
     (λ i. notBit (xorBit (operandAt (operator Equal) a (b .header) i) (operandAt (operator Equal) b (a .header) i))))
 compared-and a b =
-    equal-and (larger (a .header) (b .header)) (operandAt (operator Equal) a (b .header)) (operandAt (operator Equal) b (a .header))
+    equal-and (largerWidth (a .header) (b .header)) (operandAt (operator Equal) a (b .header)) (operandAt (operator Equal) b (a .header))

@@ -20,14 +20,15 @@ use Rattle.bit.specs.declared.LogicBit.{LogicBit}
 use Rattle.bit.specs.declared.LogicBit.the-variants.{Zero, One}
 use Rattle.words.specs.declared.Word.{Word}
 use Rattle.words.specs.Vector.{bitAt, tabulate, pack}
-use Rattle.words.specs.Planes.{stored, bitOf, fromPlanes, lent}
+use Rattle.words.specs.Planes.{stored, bitOf, fromPlanes, lent, wordBy}
 use Rattle.words.proofs.Digits.{pack-bit, pack-lt, pack-ext, bit-of-zero}
 use Rattle.words.proofs.Planes.{getD-tabulate, getD-tabulate-out, length-tabulate}
 use Rattle.words.proofs.Lanes.{Lane, word, gives, lane}
-use Rattle.words.proofs.Extend.{wordBy, cut}
+use Rattle.words.proofs.Extend.{cut}
 use Rattle.fold.specs.Fold.{any}
+use Rattle.fold.specs.Scanned.{some}
 use Rattle.fold.proofs.Gather.{gather-cong}
-use Rattle.fold.proofs.Places.{some, any-some, nonzero, inside}
+use Rattle.fold.proofs.Places.{any-some, nonzero, inside}
 use Rattle.fold.proofs.Scan.{start, more, found}
 use Rattle.extension.specs.declared.Extent.{Extent}
 use Rattle.scan.specs.declared.Comparison.{Comparison}

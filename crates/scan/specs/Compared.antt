@@ -15,7 +15,7 @@ use Rattle.fold.specs.Fold.{any}
 use Rattle.extension.specs.declared.Extent.{Extent}
 use Rattle.extension.specs.declared.Operator.{Operator}
 use Rattle.extension.specs.declared.Operator.the-variants as operator-of
-use Rattle.extension.specs.Extension.{larger, operandAt}
+use Rattle.extension.specs.Extension.{largerWidth, operandAt}
 use Rattle.scan.specs.declared.Comparison.{Comparison}
 use Rattle.scan.specs.declared.Comparison.the-variants.{Equal, CaseEqual, CasezEqual, CasexEqual, WildcardEqual}
 use Rattle.scan.specs.declared.inner.Marks.{Marks}
@@ -65,7 +65,7 @@ decided op ps = cond (any (onPair (mismatch op)) ps) Zero (cond (any (onPair (un
 -- the two bits at each place of the larger width
 abbrev pub places : Comparison → Vector → Vector → List (LogicBit × LogicBit)
 places op a b =
-    tabulate (larger (a .header) (b .header))
+    tabulate (largerWidth (a .header) (b .header))
     (λ i. (operandAt (operator op) a (b .header) i, operandAt (operator op) b (a .header) i))
 
 abbrev pub compared : Comparison → Vector → Vector → LogicBit

@@ -18,7 +18,7 @@ ghost use lib.ListN.{length, getD};
 ghost use Rattle.bit.specs.declared.LogicBit.the-variants.{Zero, One, X};
 ghost use Rattle.words.specs.Planes.{wordCount, fromPlanes, wordAt, lent, Plane};
 ghost use Rattle.value.specs.Checks.{vector};
-ghost use Rattle.fold.proofs.Scan.{Scanned};
+ghost use Rattle.fold.specs.Scanned.{Scanned};
 ghost use Rattle.scan.specs.Compared as compared;
 ghost use Rattle.scan.specs.Compared.{mismatch, unsure, onPair, decided, compared, placesOver, wordPlaces, marksOf, cutMarks, unlike};
 

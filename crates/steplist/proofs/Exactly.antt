@@ -10,7 +10,7 @@ use lib.Dec.{leb}
 use lib.ListN.{length, getD}
 use borrow.Author.Tests.{le-leb, leb-true}
 use Rattle.refusal.specs.Outcome.Answer.{given, refused}
-use Rattle.text.specs.Read.{Got, next, lineEnd}
+use Rattle.text.specs.Read.{Got, next, lineEnd, bitsKey}
 use Rattle.text.specs.Read.Got.{found, broken}
 use Rattle.text.specs.Exact.{Exact, All}
 use Rattle.text.proofs.Exact.{next-found, next-exact, limit-exact, many-exact}
@@ -22,9 +22,9 @@ use Rattle.ops.specs.declared.Op.{Op}
 use Rattle.ops.specs.declared.Step.{Step}
 use Rattle.opline.specs.OpLine.{choiceLine, largest}
 use Rattle.opline.proofs.Names.{choice-exact, op-exact}
-use Rattle.steplist.specs.Listing.{StepList, Marks, unsigned, signed, fill, allMarks, marksName, marked, marksOf, widthKey, kindKey, bitsKey}
+use Rattle.steplist.specs.Listing.{StepList, Kind, unsigned, signed, fill, allKinds, kindName, kindHeader, kindOf, widthKey, kindKey}
 use Rattle.steplist.specs.Listing.{input, inputText, InputWithin, aKey, bKey, cKey, numbers, step, stepText, StepWithin}
-use Rattle.steplist.specs.Listing.{inputsKey, stepsKey, list, listText, Within, ended, whole, WholeExactly}
+use Rattle.steplist.specs.Listing.{inputsKey, stepsKey, list, listText, Within, readToEnd, whole, WholeExactly}
 
 -- ---- a value made of what was read last
 
@@ -47,33 +47,33 @@ made-of {A} {B} {r} {w} {P} f g x there back = record {
 
 -- ---- an input
 
-marks-listed : (m : Marks) → (n : ℕ) × (n < 3) × (getD allMarks n unsigned ≡ m)
-marks-listed unsigned = (0, omega arith, refl)
-marks-listed signed = (1, omega arith, refl)
-marks-listed fill = (2, omega arith, refl)
+kind-listed : (m : Kind) → (n : ℕ) × (n < 3) × (getD allKinds n unsigned ≡ m)
+kind-listed unsigned = (0, omega arith, refl)
+kind-listed signed = (1, omega arith, refl)
+kind-listed fill = (2, omega arith, refl)
 
-marks-exact : Exact (choiceLine kindKey marksName allMarks unsigned) (λ m. kindKey ++ (marksName m ++ lineEnd)) (λ m. Unit {0})
-marks-exact = choice-exact kindKey marksName allMarks unsigned refl marks-listed
+kind-exact : Exact (choiceLine kindKey kindName allKinds unsigned) (λ m. kindKey ++ (kindName m ++ lineEnd)) (λ m. Unit {0})
+kind-exact = choice-exact kindKey kindName allKinds unsigned refl kind-listed
 
-marks-again : (w : ℕ) (m : Marks) → marksOf (marked w m) ≡ m
-marks-again w unsigned = refl
-marks-again w signed = refl
-marks-again w fill = refl
+kind-again : (w : ℕ) (m : Kind) → kindOf (kindHeader w m) ≡ m
+kind-again w unsigned = refl
+kind-again w signed = refl
+kind-again w fill = refl
 
-no-signed-fill : (w : ℕ) (m : Marks) → (marked w m .«is_signed» && marked w m .«is_fill») ≡ false
+no-signed-fill : (w : ℕ) (m : Kind) → (kindHeader w m .«is_signed» && kindHeader w m .«is_fill») ≡ false
 no-signed-fill w unsigned = refl
 no-signed-fill w signed = refl
 no-signed-fill w fill = refl
 
-width-marked : (w : ℕ) (m : Marks) → marked w m .width ≡ w
-width-marked w unsigned = refl
-width-marked w signed = refl
-width-marked w fill = refl
+width-again : (w : ℕ) (m : Kind) → kindHeader w m .width ≡ w
+width-again w unsigned = refl
+width-again w signed = refl
+width-again w fill = refl
 
-marked-again : (h : Header) → (h .«is_signed» && h .«is_fill») ≡ false → h ≡ marked (h .width) (marksOf h)
-marked-again h e = go (h .«is_signed») (h .«is_fill») refl refl e
+header-again : (h : Header) → (h .«is_signed» && h .«is_fill») ≡ false → h ≡ kindHeader (h .width) (kindOf h)
+header-again h e = go (h .«is_signed») (h .«is_fill») refl refl e
   where
-    go : (s f : Bool) → h .«is_signed» ≡ s → h .«is_fill» ≡ f → (s && f) ≡ false → h ≡ marked (h .width) (cond f fill (cond s signed unsigned))
+    go : (s f : Bool) → h .«is_signed» ≡ s → h .«is_fill» ≡ f → (s && f) ≡ false → h ≡ kindHeader (h .width) (cond f fill (cond s signed unsigned))
     go true true p q z = let y : _≡_ {A = ℕ} 0 1 = cc in absurd (omega arith)
     go true false p q z = λ i. record { width = h .width; «is_signed» = p i; «is_fill» = q i }
     go false true p q z = λ i. record { width = h .width; «is_signed» = p i; «is_fill» = q i }
@@ -87,14 +87,14 @@ input-exact =
     (λ x. x .header .width) (line-exact widthKey 4096) (λ w.
     limit-exact (λ x p. (p .1 .0, (p .1 .1 ∙ sym (p .1 .0), p .1 .2))) (λ x p. (tt {0}, (p .0, p .1 .0 ∙ p .0, p .1 .1)))
     (next-exact {Q = λ x. (x .header .width ≡ w) × (length (x .bits) ≡ w) × ((x .header .«is_signed» && x .header .«is_fill») ≡ false)}
-    (λ x. marksOf (x .header)) marks-exact (λ m.
+    (λ x. kindOf (x .header)) kind-exact (λ m.
     limit-exact
-    (λ x p. let e : x .header ≡ marked w m = p .1 in (
-      ap marksOf e ∙ marks-again w m,
-      (ap (λ (h : Header). h .width) e ∙ width-marked w m, p .0, ap (λ (h : Header). h .«is_signed» && h .«is_fill») e ∙ no-signed-fill w m),
+    (λ x p. let e : x .header ≡ kindHeader w m = p .1 in (
+      ap kindOf e ∙ kind-again w m,
+      (ap (λ (h : Header). h .width) e ∙ width-again w m, p .0, ap (λ (h : Header). h .«is_signed» && h .«is_fill») e ∙ no-signed-fill w m),
     ))
-    (λ x p. (p .1 .1, marked-again (x .header) (p .1 .2) ∙ ap₂ marked (p .1 .0) (p .0)))
-    (made-of {Q = λ x. x .header ≡ marked w m} (λ bs. record { header = marked w m; bits = bs }) (λ x. x .bits) (bitsLine-exact bitsKey w)
+    (λ x p. (p .1 .1, header-again (x .header) (p .1 .2) ∙ ap₂ kindHeader (p .1 .0) (p .0)))
+    (made-of {Q = λ x. x .header ≡ kindHeader w m} (λ bs. record { header = kindHeader w m; bits = bs }) (λ x. x .bits) (bitsLine-exact bitsKey w)
     (λ bs x e. (ap (λ (y : Vector). y .bits) e, ap (λ (y : Vector). y .header) e))
     (λ x e. λ i. record { header = e i; bits = x .bits }))))))
 
@@ -139,7 +139,7 @@ pub whole-exactly : WholeExactly
 unfolding whole
 whole-exactly t l = (there (leb (length t) 65536) refl, back)
   where
-    ended-given : (g : Got StepList) → list t ≡ g → ended g ≡ given l → (t ≡ listText l) × Within l
+    ended-given : (g : Got StepList) → list t ≡ g → readToEnd g ≡ given l → (t ≡ listText l) × Within l
     ended-given (found k []) e h =
         let q : k ≡ l = cc in
         let o = list-exact .only l t [] (e ∙ ap (λ (z : StepList). found z []) q) in
@@ -147,9 +147,9 @@ whole-exactly t l = (there (leb (length t) 65536) refl, back)
     ended-given (found k (c ∷ u)) e h = let z : _≡_ {A = ℕ} 0 1 = cc in absurd (omega arith)
     ended-given broken e h = let z : _≡_ {A = ℕ} 0 1 = cc in absurd (omega arith)
 
-    there : (b : Bool) → leb (length t) 65536 ≡ b → cond b (ended (list t)) (refused 6) ≡ given l → (t ≡ listText l) × Within l × (length t ≤ 65536)
+    there : (b : Bool) → leb (length t) 65536 ≡ b → cond b (readToEnd (list t)) (refused 6) ≡ given l → (t ≡ listText l) × Within l × (length t ≤ 65536)
     there true e h = let r = ended-given (list t) refl h in (r .0, r .1, leb-true (length t) 65536 e)
     there false e h = let z : _≡_ {A = ℕ} 0 1 = cc in absurd (omega arith)
 
-    back : (t ≡ listText l) × Within l × (length t ≤ 65536) → cond (leb (length t) 65536) (ended (list t)) (refused 6) ≡ given l
+    back : (t ≡ listText l) × Within l × (length t ≤ 65536) → cond (leb (length t) 65536) (readToEnd (list t)) (refused 6) ≡ given l
     back p = rw (le-leb (length t) 65536 (p .2)) (rw (p .0 ∙ sym (append-nil (listText l)), list-exact .accepts l [] (p .1)) refl)

@@ -1,6 +1,6 @@
 -- From the code's answers for the parts of a list to what the readers find, and from there to the whole text.
 --     line-at, line-not     a line with a number, whose limit the code worked out
---     marked-at, bits-stand      the header and the bits of an input
+--     header-at, bits-stand      the header and the bits of an input
 --     map-last, got-found, got-broken      several inputs or steps, by the place behind them
 --     first-inputs, first-steps      the first elements of an array, one by one
 --     not-listed     the answer of a refusal
@@ -18,7 +18,7 @@ use Rattle.refusal.specs.Outcome.Answer.{given, refused}
 use Rattle.refusal.specs.declared.Refusal.the-variants.{BadFormat}
 use Rattle.refusal.specs.declared.Verdict.the-variants.{Refused}
 use Rattle.words.proofs.Planes.{eq-tabulate}
-use Rattle.text.specs.Read.{key, numberLine, bits, bitsLine, many}
+use Rattle.text.specs.Read.{key, numberLine, bits, bitsKey, bitsLine, many}
 use Rattle.text.specs.Read.Got.{found, broken}
 use Rattle.text.specs.Answers.{lineIn, bitsIn}
 use Rattle.text.specs.declared.Line.the-variants.{Number, Broken}
@@ -30,8 +30,9 @@ use Rattle.text.proofs.Vectors.{bits-at}
 use Rattle.text.proofs.Places.{line-found, line-broken}
 use Rattle.value.specs.Checks.{Vector}
 use Rattle.ops.specs.declared.Step.{Step}
-use Rattle.steplist.specs.Listing.{unsigned, allMarks, marked, bitsKey, input, step, inputsKey, stepsKey, list, whole}
-use Rattle.steplist.specs.Answers.{inputIn, noInput, noStep, inputsIn, stepsIn, gotAt, listAnswer}
+use Rattle.ops.specs.Ops.{noStep}
+use Rattle.steplist.specs.Listing.{unsigned, allKinds, kindHeader, input, step, inputsKey, stepsKey, list, whole}
+use Rattle.steplist.specs.Answers.{inputIn, noInput, inputsIn, stepsIn, gotAt, listAnswer}
 use Rattle.steplist.specs.declared.Input.{Input}
 use Rattle.steplist.specs.declared.ListAnswer.{ListAnswer}
 
@@ -46,11 +47,11 @@ module _ (k s : List ℕ) (from m n : ℕ) (e : m ≡ n) where
 
 -- ---- an input
 
-pub marked-at : (w n : ℕ) → marked w (getD allMarks n unsigned) ≡ record { width = w; «is_signed» = eqb n 1; «is_fill» = eqb n 2 }
-marked-at w zero = refl
-marked-at w (suc zero) = refl
-marked-at w (suc (suc zero)) = refl
-marked-at w (suc (suc (suc n))) =
+pub header-at : (w n : ℕ) → kindHeader w (getD allKinds n unsigned) ≡ record { width = w; «is_signed» = eqb n 1; «is_fill» = eqb n 2 }
+header-at w zero = refl
+header-at w (suc zero) = refl
+header-at w (suc (suc zero)) = refl
+header-at w (suc (suc (suc n))) =
     let one : suc (suc (suc n)) ≡ 1 → ⊥ = omega arith in
     let two : suc (suc (suc n)) ≡ 2 → ⊥ = omega arith in
     rw (ne-eqb _ _ one, ne-eqb _ _ two)

@@ -1,4 +1,5 @@
--- What the code's answers say of the text that they were read from: the bits of an input stay in the text, at its place.
+-- What the code's answers say of the text that they were read from: the bits of an input stay in the text, at its place. Document 01, "Which places
+-- take which form": where an answer is an enum, a definition gives this paper's number and values for each case.
 use Prim.Native.Nat.{ℕ}
 use mathlib.Core.List.{List}
 use lib.ListN.{drop, getD}
@@ -12,8 +13,8 @@ use Rattle.text.specs.declared.Place.{Place}
 use Rattle.text.specs.declared.Place.the-variants.{At, Absent}
 use Rattle.value.specs.Checks.{Vector}
 use Rattle.value.specs.Constructors.{plain}
-use Rattle.ops.specs.declared.Op.the-variants.{And}
 use Rattle.ops.specs.declared.Step.{Step}
+use Rattle.ops.specs.Ops.{noStep}
 use Rattle.steplist.specs.Listing.{StepList}
 use Rattle.steplist.specs.declared.Input.{Input}
 use Rattle.steplist.specs.declared.StepList as code
@@ -29,12 +30,9 @@ use Rattle.steplist.specs.declared.ListAnswer.{ListAnswer}
 abbrev pub inputIn : List ℕ → Input → Vector
 inputIn s x = record { header = x .header; bits = bitsIn s (x .place) (x .header .width) }
 
--- what a number past the end of an array reads
+-- what a number past the end of the inputs reads
 abbrev pub noInput : Input
 noInput = record { header = plain 0; place = 0 }
-
-abbrev pub noStep : Step
-noStep = record { op = And; a = 0; b = 0; c = 0 }
 
 -- the first n inputs of an array, and the first n steps
 abbrev pub inputsIn : List ℕ → ℕ → List Input → List Vector

@@ -9,7 +9,7 @@ use lib.Dec.{leb}
 use lib.ListN.{length}
 use Rattle.refusal.specs.Outcome.{Answer}
 use Rattle.refusal.specs.Outcome.Answer.{given, refused}
-use Rattle.text.specs.Read.{Got, next, lineEnd, numberLine, bitsLine, many}
+use Rattle.text.specs.Read.{Got, next, lineEnd, numberLine, bitsKey, bitsLine, many}
 use Rattle.text.specs.Read.Got.{found, broken}
 use Rattle.text.specs.Write.{texts, numberText, bitsText}
 use Rattle.text.specs.Exact.{All}
@@ -34,44 +34,40 @@ widthKey = 119 ∷ 105 ∷ 100 ∷ 116 ∷ 104 ∷ 61 ∷ []
 abbrev pub kindKey : List ℕ
 kindKey = 107 ∷ 105 ∷ 110 ∷ 100 ∷ 61 ∷ []
 
--- `bits=`
-abbrev pub bitsKey : List ℕ
-bitsKey = 98 ∷ 105 ∷ 116 ∷ 115 ∷ 61 ∷ []
-
 -- unsigned, signed, unsigned fill
-pub data Marks : Type 0 where
-  unsigned : Marks
-  signed : Marks
-  fill : Marks
+pub data Kind : Type 0 where
+  unsigned : Kind
+  signed : Kind
+  fill : Kind
 
-abbrev pub allMarks : List Marks
-allMarks = unsigned ∷ signed ∷ fill ∷ []
+abbrev pub allKinds : List Kind
+allKinds = unsigned ∷ signed ∷ fill ∷ []
 
 -- u, s, f
-abbrev pub marksName : Marks → List ℕ
-marksName unsigned = 117 ∷ []
-marksName signed = 115 ∷ []
-marksName fill = 102 ∷ []
+abbrev pub kindName : Kind → List ℕ
+kindName unsigned = 117 ∷ []
+kindName signed = 115 ∷ []
+kindName fill = 102 ∷ []
 
-abbrev pub marked : ℕ → Marks → Header
-marked w unsigned = record { width = w; «is_signed» = false; «is_fill» = false }
-marked w signed = record { width = w; «is_signed» = true; «is_fill» = false }
-marked w fill = record { width = w; «is_signed» = false; «is_fill» = true }
+abbrev pub kindHeader : ℕ → Kind → Header
+kindHeader w unsigned = record { width = w; «is_signed» = false; «is_fill» = false }
+kindHeader w signed = record { width = w; «is_signed» = true; «is_fill» = false }
+kindHeader w fill = record { width = w; «is_signed» = false; «is_fill» = true }
 
-abbrev pub marksOf : Header → Marks
-marksOf h = cond (h .«is_fill») fill (cond (h .«is_signed») signed unsigned)
+abbrev pub kindOf : Header → Kind
+kindOf h = cond (h .«is_fill») fill (cond (h .«is_signed») signed unsigned)
 
 -- width= 0 to 4,096, kind=, bits= exactly that many of 0 1 x z
 unfoldable pub input : List ℕ → Got Vector
 input t =
     next (numberLine widthKey 4096 t) (λ w t.
-    next (choiceLine kindKey marksName allMarks unsigned t) (λ m t.
+    next (choiceLine kindKey kindName allKinds unsigned t) (λ m t.
     next (bitsLine bitsKey w t) (λ bs.
-    found (record { header = marked w m; bits = bs }))))
+    found (record { header = kindHeader w m; bits = bs }))))
 
 unfoldable pub inputText : Vector → List ℕ
 inputText x =
-    (widthKey ++ numberText (x .header .width)) ++ ((kindKey ++ (marksName (marksOf (x .header)) ++ lineEnd)) ++ (bitsKey ++ bitsText (x .bits)))
+    (widthKey ++ numberText (x .header .width)) ++ ((kindKey ++ (kindName (kindOf (x .header)) ++ lineEnd)) ++ (bitsKey ++ bitsText (x .bits)))
 
 -- as many bits as the width says, which is at most 4,096; no fill is signed
 unfoldable pub InputWithin : Vector → Type 0
@@ -137,14 +133,14 @@ unfoldable pub Within : StepList → Type 0
 Within l = (length (l .inputs) ≤ 64) × (length (l .steps) ≤ 256) × All InputWithin (l .inputs) × All StepWithin (l .steps)
 
 -- nothing follows; 6 where the format is broken
-abbrev pub ended : Got StepList → Answer StepList
-ended (found l []) = given l
-ended (found l (c ∷ t)) = refused 6
-ended broken = refused 6
+abbrev pub readToEnd : Got StepList → Answer StepList
+readToEnd (found l []) = given l
+readToEnd (found l (c ∷ t)) = refused 6
+readToEnd broken = refused 6
 
 -- at most 65,536 bytes
 unfoldable pub whole : List ℕ → Answer StepList
-whole t = cond (leb (length t) 65536) (ended (list t)) (refused 6)
+whole t = cond (leb (length t) 65536) (readToEnd (list t)) (refused 6)
 
 -- a text is accepted as the list l exactly where it is l's text, l is within the limits and the text is not too long
 abbrev pub WholeExactly : Type 0

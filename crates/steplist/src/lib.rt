@@ -16,7 +16,7 @@ ghost use Rattle.refusal.specs.declared.Verdict.the-variants.{Refused};
 ghost use Rattle.text.specs.Read.{many};
 ghost use Rattle.text.specs.Answers.{lineIn};
 ghost use Rattle.opline.specs.OpLine.{nameLine};
-ghost use Rattle.steplist.specs.Listing.{kindKey, marksName, allMarks, input, numbers, step, whole};
+ghost use Rattle.steplist.specs.Listing.{kindKey, kindName, allKinds, input, numbers, step, whole};
 ghost use Rattle.steplist.specs.Answers.{inputGot, inputsGot, stepGot, stepsGot, listAnswer};
 
 // An input: its header, and the place in the text where its bits stand, highest first.
@@ -79,7 +79,7 @@ const NO_STEP: Step = Step {
 
 // The line kind=, as the number of u, s or f.
 fn kind_line(s: &[u8], at: usize) -> Line
-    ensures { λ r. ⌜ r ≡ lineIn (now (s .entry)) (nameLine kindKey (map marksName allMarks) (drop at (now (s .entry)))) ⌝ }
+    ensures { λ r. ⌜ r ≡ lineIn (now (s .entry)) (nameLine kindKey (map kindName allKinds) (drop at (now (s .entry)))) ⌝ }
 {
     let Place::At(i) = text::skip(s, at, b"kind=") else {
         return Line::Broken;

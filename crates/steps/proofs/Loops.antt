@@ -16,28 +16,28 @@ use Rattle.store.specs.Store.{state}
 use Rattle.store.specs.Step.{Memory, checkMemory, stepVector, stepped, addStep}
 use Rattle.turn.specs.Turn.{stepText}
 use Rattle.steps.specs.Run.{runSteps, written, writtenBy}
-use Rattle.inputs.specs.Limits.{Narrow}
+use Rattle.inputs.specs.Limits.{AllThin}
 use Rattle.steps.proofs.Turns.{steps-done, step-turn, step-last}
-use Rattle.inputs.proofs.Narrow.{narrow-put}
+use Rattle.inputs.proofs.Thin.{thin-put}
 use Rattle.turn.proofs.Narrow.{step-narrow}
 use Rattle.inputs.proofs.Loops.{next-one, none-left}
 
-stepped-narrow : (m : Memory) (step : Step) → Narrow (m .state .store) → Narrow (addStep m step .left .state .store)
+stepped-narrow : (m : Memory) (step : Step) → AllThin (m .state .store) → AllThin (addStep m step .left .state .store)
 stepped-narrow m step n = go (checkMemory m step)
   where
-    go : (x : Answer Unit) → Narrow (orRefuse x m (outcome (given (m .state .store .count)) (stepped (stepVector (m .state) step) m)) .left .state .store)
-    go (given u) = narrow-put (stepVector (m .state) step .header) (m .state .store) n (step-narrow (m .state) step n)
+    go : (x : Answer Unit) → AllThin (orRefuse x m (outcome (given (m .state .store .count)) (stepped (stepVector (m .state) step) m)) .left .state .store)
+    go (given u) = thin-put (stepVector (m .state) step .header) (m .state .store) n (step-narrow (m .state) step n)
     go (refused k) = n
 
 -- the memory m and the place `at` of the buffer, with the steps from k on, leave what the memory `from` leaves with all n of them
 pub record Walked (from : Memory) (out : List ℕ) (n : ℕ) (f : ℕ → Step) (m : Memory) (d : List ℕ) (at k : ℕ) : Type 0 where
-  pub narrow : Narrow (m .state .store)
+  pub narrow : AllThin (m .state .store)
   pub short : at ≤ k * 4111
   pub long : length d ≡ length out
   pub left : writtenBy (runSteps from 0 (tabulate n f)) (buffer out 0) ≡ writtenBy (runSteps m k (drop k (tabulate n f))) (buffer d at)
 
 module _ (n : ℕ) (f : ℕ → Step) (from : Memory) (out : List ℕ) where
-  pub walk-start : Narrow (from .state .store) → Walked from out n f from out 0 0
+  pub walk-start : AllThin (from .state .store) → Walked from out n f from out 0 0
   walk-start t = record { narrow = t; short = omega arith; long = refl; left = refl }
 
   module _ (m : Memory) (d : List ℕ) (at k : ℕ) (h : Walked from out n f m d at k) where
@@ -61,7 +61,7 @@ module _ (n : ℕ) (f : ℕ → Step) (from : Memory) (out : List ℕ) where
             sym (shown ∙ ap (λ x. put (buffer d at) (stepText x k (stepVector (m .state) (f k) .bits))) g)
             in
             record {
-              narrow = subst (λ (z : Memory). Narrow (z .state .store)) left (stepped-narrow m (f k) (h .narrow));
+              narrow = subst (λ (z : Memory). AllThin (z .state .store)) left (stepped-narrow m (f k) (h .narrow));
               short = omega (arith, short, h .short);
               long = same ∙ h .long;
               left =

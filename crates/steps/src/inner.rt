@@ -17,7 +17,7 @@ ghost use Rattle.lines.specs.Buffer.{buffer};
 ghost use Rattle.store.specs.Store.{state};
 ghost use Rattle.store.specs.Step.{memory};
 ghost use Rattle.steplist.specs.Answers.{stepsIn, listIn};
-ghost use Rattle.inputs.specs.Limits.{Narrow, Readable};
+ghost use Rattle.inputs.specs.Limits.{AllThin, Readable};
 ghost use Rattle.steps.specs.Run.{runSteps, runList, emptied, written, writtenBy};
 
 // Runs the steps of the list on the store, up to the first that is refused, and writes their lines.
@@ -31,7 +31,7 @@ fn run_steps(
     out: &mut [u8],
 ) -> Ran
     requires { ⌜ (list .«step_count» ≤ 256) × (1052436 ≤ length (now out)) ⌝ }
-    requires { ⌜ Narrow from ⌝ }
+    requires { ⌜ AllThin from ⌝ }
     ensures { λ r. ⌜ written (memory (state (r .store) (lent (now («arena_value» .exit)) (now («arena_unknown» .exit)))) (lent (now («scratch_value» .exit)) (now («scratch_unknown» .exit)))) (buffer (now (out .exit)) (r .length)) ≡ writtenBy (runSteps (memory (state from (lent (now («arena_value» .entry)) (now («arena_unknown» .entry)))) (lent (now («scratch_value» .entry)) (now («scratch_unknown» .entry)))) 0 (stepsIn (list .«step_count») (list .steps))) (buffer (now (out .entry)) 0) ⌝ }
 {
     let n = list.step_count;

@@ -7,7 +7,7 @@ use lib.ListN.{List·getD-map}
 use Rattle.words.specs.Vector.{tabulate}
 use Rattle.value.specs.Checks.{Vector}
 use Rattle.ops.specs.declared.Step.{Step}
-use Rattle.ops.specs.Ops.{kindOf, armsRefused, opHeader, opVector}
+use Rattle.ops.specs.Ops.{familyOf, armsRefused, opHeader, opVector}
 use Rattle.machine.specs.Machine.{cellAt, headerAt, stepHeader}
 use Rattle.cells.specs.declared.Cell.{Cell}
 use Rattle.store.specs.declared.Store.{Store}
@@ -27,13 +27,13 @@ module _ (s : Store) where
   pub arms-named : (step : Step) → let o = namedCells s step in
       armsRefused (step .op) (headerAt (storeHeaders s) (step .b)) (headerAt (storeHeaders s) (step .c)) ≡ armsRefused (step .op) (o .b .header) (o .c .header)
   arms-named step =
-      unread bare (step .a) (step .b) (step .c) 0 (kindOf (step .op)) .0
+      unread bare (step .a) (step .b) (step .c) 0 (familyOf (step .op)) .0
       ∙ ap₂ (armsRefused (step .op)) (header-read (named step .b)) (header-read (named step .c))
 
   pub header-named : (step : Step) → let o = namedCells s step in
       stepHeader (storeHeaders s) step ≡ opHeader (step .op) (o .a .header) (o .b .header) (o .c .header)
   header-named step =
-      ap (λ (v : Vector). v .header) (unread bare (step .a) (step .b) (step .c) 0 (kindOf (step .op)) .1)
+      ap (λ (v : Vector). v .header) (unread bare (step .a) (step .b) (step .c) 0 (familyOf (step .op)) .1)
       ∙ (λ k. opHeader (step .op) (header-read (named step .a) k) (header-read (named step .b) k) (header-read (named step .c) k))
 
 module _ (s : State) where
@@ -45,5 +45,5 @@ module _ (s : State) where
       stepVector s step
       ≡ opVector (step .op) (cellVector (s .arenas) (o .a)) (cellVector (s .arenas) (o .b)) (cellVector (s .arenas) (o .c)) (step .c)
   vector-named step =
-      unread (cellAt (cellsOf s)) (step .a) (step .b) (step .c) (step .c) (kindOf (step .op)) .1
+      unread (cellAt (cellsOf s)) (step .a) (step .b) (step .c) (step .c) (familyOf (step .op)) .1
       ∙ (λ k. opVector (step .op) (vector-read (named step .a) k) (vector-read (named step .b) k) (vector-read (named step .c) k) (step .c))

@@ -10,8 +10,8 @@ use native.Mathlib.Omega.{arith}
 use lib.Dec.{eqb}
 use lib.ListN.{length, getD}
 use borrow.Author.Tests.{eqb-true, eqb-false}
+use Rattle.bit.proofs.Tests.{and-true}
 use Rattle.text.specs.Read.{Got, found, broken, when, orElse, lineEnd, key, named, oneOf}
-use Rattle.text.specs.Write.{nameText}
 use Rattle.text.specs.Exact.{Exact}
 use Rattle.text.specs.Answers.{lineIn, firstLine}
 use Rattle.text.specs.declared.Line.{Line}
@@ -55,10 +55,6 @@ distinct (k ∷ ks) = apartAll k ks && distinct ks
 false-true : {A : Type 0} → false ≡ true → A
 false-true e = let z : _≡_ {A = ℕ} 0 1 = cc in absurd (omega arith)
 
-both : (a b : Bool) → (a && b) ≡ true → (a ≡ true) × (b ≡ true)
-both true b h = (refl, h)
-both false b h = false-true h
-
 apart-broken : (k b t : List ℕ) → apart k b ≡ true → key k (b ++ t) ≡ broken
 unfolding key
 apart-broken [] b t h = false-true h
@@ -71,14 +67,14 @@ apart-broken (x ∷ k) (y ∷ b) t h = go (eqb y x) h (λ q. apart-broken k b t 
 
 apart-at : (k : List ℕ) (ks : List (List ℕ)) (j : ℕ) → apartAll k ks ≡ true → j < length ks → apart (k ++ lineEnd) (getD ks j [] ++ lineEnd) ≡ true
 apart-at k [] j h p = absurd (omega arith)
-apart-at k (b ∷ ks) zero h p = both (apart (k ++ lineEnd) (b ++ lineEnd)) (apartAll k ks) h .0
-apart-at k (b ∷ ks) (suc j) h p = apart-at k ks j (both (apart (k ++ lineEnd) (b ++ lineEnd)) (apartAll k ks) h .1) (omega arith)
+apart-at k (b ∷ ks) zero h p = and-true (apart (k ++ lineEnd) (b ++ lineEnd)) (apartAll k ks) h .0
+apart-at k (b ∷ ks) (suc j) h p = apart-at k ks j (and-true (apart (k ++ lineEnd) (b ++ lineEnd)) (apartAll k ks) h .1) (omega arith)
 
 oneOf-accepts : (ks : List (List ℕ)) (i v : ℕ) (t : List ℕ) → distinct ks ≡ true → i ≤ v → v < i + length ks
     → oneOf ks i ((getD ks (v - i) [] ++ lineEnd) ++ t) ≡ found v t
 unfolding oneOf named
 oneOf-accepts [] i v t d p q = absurd (omega arith)
-oneOf-accepts (k ∷ ks) i v t d p q = go (eqb v i) refl (λ a b. oneOf-accepts ks (suc i) v t (both (apartAll k ks) (distinct ks) d .1) a b)
+oneOf-accepts (k ∷ ks) i v t d p q = go (eqb v i) refl (λ a b. oneOf-accepts ks (suc i) v t (and-true (apartAll k ks) (distinct ks) d .1) a b)
   where
     go : (b : Bool) → eqb v i ≡ b
         → (suc i ≤ v → v < suc i + length ks → oneOf ks (suc i) ((getD ks (v - suc i) [] ++ lineEnd) ++ t) ≡ found v t)
@@ -90,7 +86,7 @@ oneOf-accepts (k ∷ ks) i v t d p q = go (eqb v i) refl (λ a b. oneOf-accepts 
     go false e ih =
         let ne = eqb-false v i e in
         let n : v - i ≡ suc (v - suc i) = omega arith in
-        let a = apart-at k ks (v - suc i) (both (apartAll k ks) (distinct ks) d .0) (omega arith) in
+        let a = apart-at k ks (v - suc i) (and-true (apartAll k ks) (distinct ks) d .0) (omega arith) in
         let r = apart-broken (k ++ lineEnd) (getD ks (v - suc i) [] ++ lineEnd) t a in
         rw (n, r) (ih (omega arith) (omega arith))
 
@@ -117,6 +113,10 @@ oneOf-only (k ∷ ks) i v t u h = go (named k i t) refl h (λ q. oneOf-only ks (
         let b = r .0 .1 in
         let n : v - i ≡ suc (v - suc i) = omega arith in
         ((omega arith, omega arith), rw n (r .1))
+
+-- the line of name v
+unfoldable pub nameText : List (List ℕ) → ℕ → List ℕ
+nameText ks v = getD ks v [] ++ lineEnd
 
 pub oneOf-exact : (ks : List (List ℕ)) → distinct ks ≡ true → Exact (oneOf ks 0) (nameText ks) (λ v. v < length ks)
 unfolding nameText

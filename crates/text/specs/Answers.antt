@@ -1,4 +1,5 @@
--- What the code answers for a reader's answer in the text s: a place of s instead of the text from there on.
+-- What the code answers for a reader's answer in the text s: a place of s instead of the text from there on. Document 01, "Which places take which
+-- form": where an answer is an enum, a definition gives the values of each case.
 use Prim.Native.Nat.{ℕ, _-_}
 use mathlib.Core.List.{List, map, reverse}
 use lib.ListN.{length, take, drop}

@@ -1,4 +1,5 @@
--- What it is for a reader to accept the text that a writer writes, and no other.
+-- What it is for a reader to accept the text that a writer writes, and no other: document 01, "Step list", refuses by 6 what breaks the format
+-- and nothing else.
 use mathlib.Core.Path.{_≡_}
 use mathlib.Core.List.{List, [], _∷_, _++_}
 use Prim.Native.Nat.{ℕ}

@@ -89,6 +89,10 @@ bit (c ∷ t) = when (isBit c) (found (ofByte c) t)
 unfoldable pub bits : ℕ → List ℕ → Got (List LogicBit)
 bits n t = next (many bit n t) (λ bs u. next (key lineEnd u) (λ x. found (reverse bs)))
 
+-- `bits=`
+abbrev pub bitsKey : List ℕ
+bitsKey = 98 ∷ 105 ∷ 116 ∷ 115 ∷ 61 ∷ []
+
 -- a line of a key and a vector of width n
 unfoldable pub bitsLine : List ℕ → ℕ → List ℕ → Got (List LogicBit)
 bitsLine k n t = next (key k t) (λ x. bits n)

@@ -4,7 +4,6 @@ use Prim.Native.Nat.{ℕ, zero, suc, _+_, _/_, _%_}
 use mathlib.Core.Bool.{cond}
 use mathlib.Core.List.{List, [], _∷_, _++_, reverse}
 use lib.Dec.{ltb}
-use lib.ListN.{getD}
 use Rattle.bit.specs.declared.LogicBit.{LogicBit}
 use Rattle.bit.specs.declared.LogicBit.the-variants.{Zero, One, X, Z}
 use Rattle.text.specs.Read.{lineEnd}
@@ -25,9 +24,6 @@ decimal n = digits (suc n) n
 
 unfoldable pub numberText : ℕ → List ℕ
 numberText n = decimal n ++ lineEnd
-
-unfoldable pub nameText : List (List ℕ) → ℕ → List ℕ
-nameText ks v = getD ks v [] ++ lineEnd
 
 -- the characters 0 1 x z
 abbrev pub bitByte : LogicBit → ℕ

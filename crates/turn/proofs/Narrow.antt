@@ -5,16 +5,16 @@ use native.Mathlib.Omega.{arith}
 use lib.ListN.{take, getD}
 use Rattle.words.specs.Planes.{Planes}
 use Rattle.value.specs.declared.Header.{Header}
-use Rattle.ops.specs.declared.Kind.{Kind}
-use Rattle.ops.specs.declared.Kind.the-variants as kind
+use Rattle.ops.specs.declared.Family.{Family}
+use Rattle.ops.specs.declared.Family.the-variants as family
 use Rattle.ops.specs.declared.Step.{Step}
-use Rattle.ops.specs.Ops.{kindOf, kindHeader}
+use Rattle.ops.specs.Ops.{familyOf, familyHeader}
 use Rattle.machine.specs.Machine.{cellAt}
 use Rattle.cells.specs.declared.Cell.{Cell}
 use Rattle.cells.specs.Cells.{cellVector}
 use Rattle.store.specs.Store.{State, noCell, cellsOf}
 use Rattle.store.specs.Step.{stepVector}
-use Rattle.inputs.specs.Limits.{Thin, Narrow}
+use Rattle.inputs.specs.Limits.{Thin, AllThin}
 
 cells-thin : (a : Planes) (cs : List Cell) (n : ℕ) → ((j : ℕ) → Thin (getD cs j noCell .header)) → (j : ℕ) → Thin (cellAt (map (cellVector a) (take n cs)) j .header)
 cells-thin a [] zero t j = omega arith
@@ -23,15 +23,15 @@ cells-thin a (c ∷ cs) zero t j = omega arith
 cells-thin a (c ∷ cs) (suc n) t zero = t 0
 cells-thin a (c ∷ cs) (suc n) t (suc j) = cells-thin a cs n (λ k. t (suc k)) j
 
-kind-thin : (k : Kind) (a b c : Header) → Thin a → Thin b → Thin c → Thin (kindHeader k a b c)
-kind-thin (kind.Join j) a b c p q r = omega arith
-kind-thin kind.Not a b c p q r = p
-kind-thin (kind.Answer q) a b c p q′ r = omega arith
-kind-thin kind.Select a b c p q r = q
-kind-thin kind.Insert a b c p q r = p
+family-thin : (k : Family) (a b c : Header) → Thin a → Thin b → Thin c → Thin (familyHeader k a b c)
+family-thin (family.Join j) a b c p q r = omega arith
+family-thin family.Not a b c p q r = p
+family-thin (family.Answer q) a b c p q′ r = omega arith
+family-thin family.Select a b c p q r = q
+family-thin family.Insert a b c p q r = p
 
-pub step-narrow : (s : State) (step : Step) → Narrow (s .store) → Thin (stepVector s step .header)
+pub step-narrow : (s : State) (step : Step) → AllThin (s .store) → Thin (stepVector s step .header)
 step-narrow s step n =
     let t : (j : ℕ) → Thin (cellAt (cellsOf s) j .header) = cells-thin (s .arenas) (s .store .cells) (s .store .count) n in
-    kind-thin (kindOf (step .op)) (cellAt (cellsOf s) (step .a) .header) (cellAt (cellsOf s) (step .b) .header) (cellAt (cellsOf s) (step .c) .header)
+    family-thin (familyOf (step .op)) (cellAt (cellsOf s) (step .a) .header) (cellAt (cellsOf s) (step .b) .header) (cellAt (cellsOf s) (step .c) .header)
     (t (step .a)) (t (step .b)) (t (step .c))

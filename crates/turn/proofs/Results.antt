@@ -17,9 +17,9 @@ use Rattle.ops.specs.declared.Step.{Step}
 use Rattle.store.specs.Store.{noCell}
 use Rattle.store.specs.Step.{Memory, checkMemory, stepVector, stepped, addStep}
 use Rattle.store.proofs.Steps.{step-admitted, step-storable, worked-front}
-use Rattle.inputs.specs.Limits.{Narrow}
+use Rattle.inputs.specs.Limits.{AllThin}
 use Rattle.turn.specs.Turn.{Front, frontBits}
-use Rattle.inputs.proofs.Narrow.{narrow-put}
+use Rattle.inputs.proofs.Thin.{thin-put}
 use Rattle.turn.proofs.Narrow.{step-narrow}
 
 pub number-small : (r : Refusal) → refusalNumber r < 100
@@ -38,7 +38,7 @@ number-small BadStore = omega arith
 -- the cell c that a step has added to the memory n
 pub record Shown (m n : Memory) (step : Step) (c : ℕ) : Type 0 where
   pub few : c < 320
-  pub narrow : Narrow (n .state .store)
+  pub narrow : AllThin (n .state .store)
   pub front : Front (getD (n .state .store .cells) c noCell .header) (n .scratch)
   pub bits : frontBits (getD (n .state .store .cells) c noCell .header .width) (n .scratch) ≡ stepVector (m .state) step .bits
 
@@ -50,7 +50,7 @@ added m n (refused r) k c l e =
     let y : _≡_ {A = ℕ} 0 1 = cc in
     absurd (omega arith)
 
-pub step-shown : (m n : Memory) (step : Step) (c : ℕ) → length (m .state .store .cells) ≡ 320 → Narrow (m .state .store) → outcome (given c) n ≡ addStep m step
+pub step-shown : (m n : Memory) (step : Step) (c : ℕ) → length (m .state .store .cells) ≡ 320 → AllThin (m .state .store) → outcome (given c) n ≡ addStep m step
     → Shown m n step c
 step-shown m n step c places narrow e =
     let v = stepVector (m .state) step in
@@ -63,7 +63,7 @@ step-shown m n step c places narrow e =
     subst (λ (o : Memory). Shown m o step c) (sym (d .2))
     (subst (Shown m (stepped v m) step) (sym (d .1)) (record {
       few = a .few;
-      narrow = narrow-put (v .header) (m .state .store) narrow (step-narrow (m .state) step narrow);
+      narrow = thin-put (v .header) (m .state .store) narrow (step-narrow (m .state) step narrow);
       front = subst (λ (h : Header). Front h (stepped v m .scratch)) (sym k) (record { thin = step-narrow (m .state) step narrow; value-long = f .value-long; unknown-long = f .unknown-long });
       bits = ap (λ (h : Header). frontBits (h .width) (stepped v m .scratch)) k ∙ ap (λ (r : Vector). r .bits) (f .holds);
     }))

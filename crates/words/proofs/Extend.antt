@@ -4,29 +4,24 @@
 --     cut                       a word masked to the digits below the width
 --     cut-vector                word k of a vector of width w
 --     operand                   word k of a vector that is continued by one bit
-use mathlib.Core.Path.{_≡_, refl, sym, ap, ap₂, _∙_}
-use mathlib.Core.Bool.{Bool, true, false, cond}
+use mathlib.Core.Path.{_≡_, sym, ap, ap₂, _∙_}
+use mathlib.Core.Bool.{Bool, cond}
 use mathlib.Core.Logic.{⊎-elim}
 use mathlib.Core.List.{List}
-use Prim.Native.Nat.{ℕ, zero, suc, _+_, _-_, _*_, _/_, _%_, _^_, _≤_, _<_, min, max}
+use Prim.Native.Nat.{ℕ, zero, suc, _+_, _-_, _*_, _^_, _≤_, _<_, min, max}
 use native.Mathlib.Nat.{lt-of-lt-of-le, lt-of-le-of-lt}
 use native.Mathlib.Omega.{arith}
 use borrow.Author.Tests.{lt-ltb, le-ltb}
 use lib.Dec.{eqb, ltb}
-use lib.ListN.{length, getD}
+use lib.ListN.{getD}
 use lib.Pow.{pow-mono, ones-lt, ones-sub-lt}
 use lib.Bits.{bitAnd, bitOr, and-lt, or-lt, and-mask, and-le-l}
 use Rattle.bit.specs.declared.LogicBit.{LogicBit}
 use Rattle.bit.specs.declared.LogicBit.the-variants.{Zero}
-use Rattle.words.specs.declared.Word.{Word}
 use Rattle.words.specs.Vector.{at, bitAt, tabulate, pack}
-use Rattle.words.specs.Planes.{valueDigit, unknownDigit, stored, wordCount, planeBit, digits, wordOf, wordAt, fromPlanes}
+use Rattle.words.specs.Planes.{valueDigit, unknownDigit, stored, planeBit, planeDigits, wordOf, fromPlanes}
 use Rattle.words.proofs.Digits.{bit-and, bit-or, bit-not, bit-ones, bit-above, bit-lt, bit-mod, bit-mod-above, pack-ext, pack-bit, pack-lt, pack-cong, lt-or-ge}
 use Rattle.words.proofs.Planes.{getD-tabulate, getD-tabulate-out, plane-bit, value-digit-stored, unknown-digit-stored, value-digit-lt, unknown-digit-lt, stored-bit}
-
--- a word of each plane, as one
-abbrev pub wordBy : ℕ → ℕ → Word
-wordBy v u = record { value = v; unknown = u }
 
 pub mask-lt : (n : ℕ) → n ≤ 64 → 2 ^ n - 1 < 2 ^ 64
 mask-lt n l = lt-of-lt-of-le (ones-lt n) (pow-mono l)
@@ -55,7 +50,7 @@ module _ (old mask new : ℕ) (ho : old < 2 ^ 64) (hm : mask < 2 ^ 64) (hn : new
 
 module _ (p : List ℕ) (w k f n : ℕ) (hf : f < 2 ^ 64) (e : n ≡ min 64 (w - k * 64)) where
   -- digit j of the word, told from a plane's word and the fill
-  continued : (j : ℕ) → j < 64 → cond (ltb j n) (bitAt (getD p k 0) j) (bitAt f j) ≡ getD (digits w p) (k * 64 + j) (bitAt f j)
+  continued : (j : ℕ) → j < 64 → cond (ltb j n) (bitAt (getD p k 0) j) (bitAt f j) ≡ getD (planeDigits w p) (k * 64 + j) (bitAt f j)
   continued j h =
       ⊎-elim
       (λ l. ap (λ (b : Bool). cond b (bitAt (getD p k 0) j) (bitAt f j)) (lt-ltb j n l) ∙ plane-bit p k j h
@@ -64,15 +59,15 @@ module _ (p : List ℕ) (w k f n : ℕ) (hf : f < 2 ^ 64) (e : n ≡ min 64 (w -
       ∙ sym (getD-tabulate-out w (planeBit p) (k * 64 + j) (bitAt f j) (omega arith)))
       (lt-or-ge j n)
 
-  pub extended : pack 64 (λ j. cond (eqb (bitAt (2 ^ n - 1) j) 1) (bitAt (getD p k 0) j) (bitAt f j)) ≡ pack 64 (λ j. getD (digits w p) (k * 64 + j) (bitAt f j))
+  pub extended : pack 64 (λ j. cond (eqb (bitAt (2 ^ n - 1) j) 1) (bitAt (getD p k 0) j) (bitAt f j)) ≡ pack 64 (λ j. getD (planeDigits w p) (k * 64 + j) (bitAt f j))
   extended =
       pack-cong 64 _ _
       (λ j h. ap (λ (b : Bool). cond b (bitAt (getD p k 0) j) (bitAt f j)) (ones-digit n j) ∙ continued j h)
 
-  pub inside : getD p k 0 < 2 ^ 64 → n ≡ 64 → getD p k 0 ≡ pack 64 (λ j. getD (digits w p) (k * 64 + j) (bitAt f j))
+  pub inside : getD p k 0 < 2 ^ 64 → n ≡ 64 → getD p k 0 ≡ pack 64 (λ j. getD (planeDigits w p) (k * 64 + j) (bitAt f j))
   inside hx z = pack-ext 64 (getD p k 0) _ hx (λ j h. plane-bit p k j h ∙ sym (getD-tabulate w (planeBit p) (k * 64 + j) (bitAt f j) (omega arith)))
 
-  pub beyond : n ≡ 0 → f ≡ pack 64 (λ j. getD (digits w p) (k * 64 + j) (bitAt f j))
+  pub beyond : n ≡ 0 → f ≡ pack 64 (λ j. getD (planeDigits w p) (k * 64 + j) (bitAt f j))
   beyond z = pack-ext 64 f _ hf (λ j h. sym (getD-tabulate-out w (planeBit p) (k * 64 + j) (bitAt f j) (omega arith)))
 
 -- a word masked to the digits below w
@@ -97,7 +92,7 @@ cut-vector d below none w k n f e =
 
 -- a digit d of the vector continued by a bit is the plane's digit continued by the bit's
 module _ (d : LogicBit → ℕ) (w : ℕ) (v u p : List ℕ) (is : (i : ℕ) → planeBit p i ≡ d (stored (planeBit v i) (planeBit u i))) where
-  digit-of : (i : ℕ) (b : LogicBit) → getD (digits w p) i (d b) ≡ d (getD (fromPlanes w v u) i b)
+  digit-of : (i : ℕ) (b : LogicBit) → getD (planeDigits w p) i (d b) ≡ d (getD (fromPlanes w v u) i b)
   digit-of i b =
       ⊎-elim
       (λ l. getD-tabulate w (planeBit p) i (d b) l ∙ is i ∙ ap d (sym (getD-tabulate w (λ i. stored (planeBit v i) (planeBit u i)) i b l)))
@@ -106,10 +101,10 @@ module _ (d : LogicBit → ℕ) (w : ℕ) (v u p : List ℕ) (is : (i : ℕ) →
 
   -- with a fill word that holds the digit of the bit everywhere
   pub operand : ((b : LogicBit) → d b < 2) → (k f : ℕ) (b : LogicBit) → f ≡ pack 64 (λ j. d b)
-      → pack 64 (λ j. getD (digits w p) (k * 64 + j) (bitAt f j)) ≡ wordOf d (λ i. getD (fromPlanes w v u) i b) k
+      → pack 64 (λ j. getD (planeDigits w p) (k * 64 + j) (bitAt f j)) ≡ wordOf d (λ i. getD (fromPlanes w v u) i b) k
   operand below k f b e =
       pack-cong 64 _ _
-      (λ j l. ap (λ (x : ℕ). getD (digits w p) (k * 64 + j) x) (ap (λ (x : ℕ). bitAt x j) e ∙ pack-bit 64 (λ j. d b) (λ j _. below b) j l)
+      (λ j l. ap (λ (x : ℕ). getD (planeDigits w p) (k * 64 + j) x) (ap (λ (x : ℕ). bitAt x j) e ∙ pack-bit 64 (λ j. d b) (λ j _. below b) j l)
       ∙ digit-of (k * 64 + j) b)
 
 pub value-is : (v u : List ℕ) (i : ℕ) → planeBit v i ≡ valueDigit (stored (planeBit v i) (planeBit u i))

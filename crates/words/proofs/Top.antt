@@ -1,37 +1,35 @@
 -- The top word: what lies in it at or above the width.
 --     top-masked    masking the last word masks the plane
 --     top-clear     the last word tells whether the plane has a bit at or above the width
-use mathlib.Core.Path.{_≡_, refl, sym, ap, ap₂, _∙_, subst}
+use mathlib.Core.Path.{_≡_, refl, sym, ap, _∙_, subst}
 use mathlib.Core.Logic.{⊎-elim}
-use mathlib.Core.Bool.{Bool, true, false, _&&_}
 use mathlib.Core.List.{List, [], _∷_}
-use Prim.Native.Nat.{ℕ, zero, suc, _+_, _-_, _*_, _/_, _%_, _^_, _≤_, _<_, min, max}
-use native.Mathlib.Nat.{not-suc-le-zero, le-of-suc-le-suc, eq-or-lt-of-le, zero-lt-suc}
+use Prim.Native.Nat.{ℕ, zero, suc, _+_, _-_, _*_, _/_, _%_, _^_, _≤_, _<_, min}
 use native.Mathlib.Omega.{arith}
 use lib.Dec.{T, eqb, eqb→eq}
 use borrow.Author.Tests.{eq-eqb}
-use lib.ListN.{length, getD, set, drop, length-set, length-drop, List·getD-eq-default}
+use lib.ListN.{length, getD, set, drop, length-set, List·getD-eq-default}
 use lib.Seq.{getD-set-same, getD-set-other, getD-drop}
 use lib.Pow.{ones-lt, ones-sub-lt, pow-pos}
-use lib.Bits.{bitAnd, and-lt, and-mask}
-use Rattle.bit.specs.declared.LogicBit.the-variants.{Zero, One, X, Z}
-use Rattle.words.specs.Vector.{tabulate, at, bitAt, pack}
-use Rattle.words.specs.Planes.{wordCount, planeBit, digits, allZero, clearAbove, cleared, stored, fromPlanes}
+use lib.Bits.{bitAnd, and-lt}
+use Rattle.bit.proofs.Tests.{and-left, and-right, and-intro, bool-ext}
+use Rattle.words.specs.Vector.{bitAt, pack}
+use Rattle.words.specs.Planes.{wordCount, planeBit, planeDigits, allZero, clearAbove, cleared}
 use Rattle.words.specs.Planes.{masked}
 use Rattle.words.proofs.Digits.{bit-and, bit-not, bit-ones, bit-above, bit-lt, bit-of-zero, pack-ext, word-ext, lt-or-ge}
-use Rattle.words.proofs.Planes.{getD-tabulate, getD-tabulate-out, length-tabulate, eq-tabulate, plane-bit}
+use Rattle.words.proofs.Planes.{getD-tabulate, getD-tabulate-out, eq-tabulate, plane-bit}
 use Rattle.words.proofs.Extend.{cut, mask-lt}
 
 -- ---- masking
 
 module _ (p : List ℕ) (w : ℕ) (words : (k : ℕ) → getD p k 0 < 2 ^ 64) where
-  pub whole-word : (k : ℕ) → k * 64 + 64 ≤ w → getD p k 0 ≡ pack 64 (λ j. getD (digits w p) (k * 64 + j) 0)
+  pub whole-word : (k : ℕ) → k * 64 + 64 ≤ w → getD p k 0 ≡ pack 64 (λ j. getD (planeDigits w p) (k * 64 + j) 0)
   whole-word k h = pack-ext 64 (getD p k 0) _ (words k) (λ j l. plane-bit p k j l ∙ sym (getD-tabulate w (planeBit p) (k * 64 + j) 0 (omega arith)))
 
-  pub cut-word : (k n : ℕ) → n ≡ min 64 (w - k * 64) → bitAnd (getD p k 0) (2 ^ n - 1) ≡ pack 64 (λ j. getD (digits w p) (k * 64 + j) 0)
+  pub cut-word : (k n : ℕ) → n ≡ min 64 (w - k * 64) → bitAnd (getD p k 0) (2 ^ n - 1) ≡ pack 64 (λ j. getD (planeDigits w p) (k * 64 + j) 0)
   cut-word k n e =
       ap (λ (x : ℕ). bitAnd x (2 ^ n - 1)) (pack-ext 64 (getD p k 0) (bitAt (getD p k 0)) (words k) (λ j l. refl))
-      ∙ cut w k n (bitAt (getD p k 0)) (λ j. getD (digits w p) (k * 64 + j) 0) e (λ j _. bit-lt (getD p k 0) j)
+      ∙ cut w k n (bitAt (getD p k 0)) (λ j. getD (planeDigits w p) (k * 64 + j) 0) e (λ j _. bit-lt (getD p k 0) j)
       (λ j l m. plane-bit p k j l ∙ sym (getD-tabulate w (planeBit p) (k * 64 + j) 0 m))
       (λ j m. getD-tabulate-out w (planeBit p) (k * 64 + j) 0 m)
 
@@ -44,12 +42,12 @@ module _ (p : List ℕ) (w : ℕ) (words : (k : ℕ) → getD p k 0 < 2 ^ 64) wh
   top-masked n e some m =
       let last : ℕ = length p - 1 in
       let x : ℕ = bitAnd (getD p last 0) (2 ^ n - 1) in
-      eq-tabulate (length p) (λ k. pack 64 (λ j. getD (digits w p) (k * 64 + j) 0)) (set p last x) 0 (length-set p last x)
+      eq-tabulate (length p) (λ k. pack 64 (λ j. getD (planeDigits w p) (k * 64 + j) 0)) (set p last x) 0 (length-set p last x)
       (λ k l. ⊎-elim
       (λ h. getD-set-other p last k x 0 (omega arith) ∙ whole-word k (omega arith))
       (λ h. let q : k ≡ last = omega arith in
       ap (λ (i : ℕ). getD (set p last x) i 0) q ∙ getD-set-same p last x 0 (omega arith) ∙ cut-word last n m
-      ∙ ap (λ (i : ℕ). pack 64 (λ j. getD (digits w p) (i * 64 + j) 0)) (sym q))
+      ∙ ap (λ (i : ℕ). pack 64 (λ j. getD (planeDigits w p) (i * 64 + j) 0)) (sym q))
       (lt-or-ge k last))
       ∙ sym (mask-some w some)
 
@@ -58,36 +56,18 @@ module _ (p : List ℕ) (w : ℕ) (words : (k : ℕ) → getD p k 0 < 2 ^ 64) wh
 eq→eqb : (m n : ℕ) → m ≡ n → T (eqb m n)
 eq→eqb m n e = subst T (sym (eq-eqb m n e)) tt
 
-bool-ext : (a b : Bool) → (T a → T b) → (T b → T a) → a ≡ b
-bool-ext true true f g = refl
-bool-ext true false f g = absurd (f tt)
-bool-ext false true f g = absurd (g tt)
-bool-ext false false f g = refl
-
-and-i : (a b : Bool) → T a → T b → T (a && b)
-and-i true b p q = q
-and-i false b p q = p
-
-and-l : (a b : Bool) → T (a && b) → T a
-and-l true b t = tt
-and-l false b t = t
-
-and-r : (a b : Bool) → T (a && b) → T b
-and-r true b t = t
-and-r false b t = absurd t
-
 pub zero-all : (l : List ℕ) → ((i : ℕ) → getD l i 0 ≡ 0) → T (allZero l)
 zero-all [] h = tt
-zero-all (d ∷ ds) h = and-i (eqb d 0) (allZero ds) (eq→eqb d 0 (h 0)) (zero-all ds (λ i. h (suc i)))
+zero-all (d ∷ ds) h = and-intro (eqb d 0) (allZero ds) (eq→eqb d 0 (h 0)) (zero-all ds (λ i. h (suc i)))
 
 pub all-zero : (l : List ℕ) → T (allZero l) → (i : ℕ) → getD l i 0 ≡ 0
 all-zero [] t i = refl
-all-zero (d ∷ ds) t zero = eqb→eq d 0 (and-l (eqb d 0) (allZero ds) t)
-all-zero (d ∷ ds) t (suc i) = all-zero ds (and-r (eqb d 0) (allZero ds) t) i
+all-zero (d ∷ ds) t zero = eqb→eq d 0 (and-left (eqb d 0) (allZero ds) t)
+all-zero (d ∷ ds) t (suc i) = all-zero ds (and-right (eqb d 0) (allZero ds) t) i
 
 -- `clearAbove` is what it says
 module _ (w : ℕ) (p : List ℕ) where
-  beyond-digit : (i : ℕ) → getD (digits (length p * 64) p) i 0 ≡ planeBit p i
+  beyond-digit : (i : ℕ) → getD (planeDigits (length p * 64) p) i 0 ≡ planeBit p i
   beyond-digit i =
       ⊎-elim
       (λ l. getD-tabulate (length p * 64) (planeBit p) i 0 l)
@@ -96,12 +76,12 @@ module _ (w : ℕ) (p : List ℕ) where
       (lt-or-ge i (length p * 64))
 
   pub clear-all : ((i : ℕ) → w ≤ i → planeBit p i ≡ 0) → T (clearAbove w p)
-  clear-all h = zero-all (drop w (digits (length p * 64) p)) (λ i. getD-drop w (digits (length p * 64) p) i 0 ∙ beyond-digit (w + i) ∙ h (w + i) (omega arith))
+  clear-all h = zero-all (drop w (planeDigits (length p * 64) p)) (λ i. getD-drop w (planeDigits (length p * 64) p) i 0 ∙ beyond-digit (w + i) ∙ h (w + i) (omega arith))
 
   pub all-clear : T (clearAbove w p) → (i : ℕ) → w ≤ i → planeBit p i ≡ 0
   all-clear t i l =
       let e : w + (i - w) ≡ i = omega arith in
-      ap (planeBit p) (sym e) ∙ sym (beyond-digit (w + (i - w))) ∙ sym (getD-drop w (digits (length p * 64) p) (i - w) 0) ∙ all-zero (drop w (digits (length p * 64) p)) t (i - w)
+      ap (planeBit p) (sym e) ∙ sym (beyond-digit (w + (i - w))) ∙ sym (getD-drop w (planeDigits (length p * 64) p) (i - w) 0) ∙ all-zero (drop w (planeDigits (length p * 64) p)) t (i - w)
 
   module _ (n : ℕ) (e : length p ≡ wordCount w) (words : (k : ℕ) → getD p k 0 < 2 ^ 64) (m : n ≡ min 64 (w - (length p - 1) * 64)) where
     abbrev over : ℕ

@@ -1,6 +1,6 @@
 -- Document 01, "Planes": a vector as two lists of 64-bit words, value and unknown, and back.
 use mathlib.Core.Path.{_≡_}
-use mathlib.Core.Bool.{Bool, true, false, _&&_}
+use mathlib.Core.Bool.{Bool, true, _&&_}
 use mathlib.Core.List.{List, [], _∷_}
 use Prim.Native.Nat.{ℕ, zero, suc, _+_, _-_, _*_, _/_, _%_, _≤_}
 use lib.Dec.{eqb}
@@ -46,6 +46,10 @@ fromPlanes w v u = tabulate w (λ i. stored (planeBit v i) (planeBit u i))
 abbrev pub wordOf : (LogicBit → ℕ) → (ℕ → LogicBit) → ℕ → ℕ
 wordOf d f k = pack 64 (λ j. d (f (k * 64 + j)))
 
+-- a word of both planes
+abbrev pub wordBy : ℕ → ℕ → Word
+wordBy v u = record { value = v; unknown = u }
+
 -- the bits f 0, .., f 63 as a word of both planes
 abbrev pub packed : (ℕ → LogicBit) → Word
 packed f = record { value = pack 64 (λ j. valueDigit (f j)); unknown = pack 64 (λ j. unknownDigit (f j)) }
@@ -69,8 +73,8 @@ abbrev pub unknownPlane : List LogicBit → List ℕ
 unknownPlane = planeOf unknownDigit
 
 -- the digits of a plane below w
-abbrev pub digits : ℕ → List ℕ → List ℕ
-digits w p = tabulate w (planeBit p)
+abbrev pub planeDigits : ℕ → List ℕ → List ℕ
+planeDigits w p = tabulate w (planeBit p)
 
 abbrev pub allZero : List ℕ → Bool
 allZero [] = true
@@ -78,11 +82,11 @@ allZero (d ∷ ds) = eqb d 0 && allZero ds
 
 -- no bit of a plane is set at or above w
 abbrev pub clearAbove : ℕ → List ℕ → Bool
-clearAbove w p = allZero (drop w (digits (length p * 64) p))
+clearAbove w p = allZero (drop w (planeDigits (length p * 64) p))
 
 -- a plane with its bits at or above w cleared
 abbrev pub cleared : ℕ → List ℕ → List ℕ
-cleared w p = tabulate (length p) (λ k. pack 64 (λ j. getD (digits w p) (k * 64 + j) 0))
+cleared w p = tabulate (length p) (λ k. pack 64 (λ j. getD (planeDigits w p) (k * 64 + j) 0))
 
 -- a plane that a vector of width w may have: exactly its word count, and no bit at or above w
 pub record Plane (w : ℕ) (p : List ℕ) : Type 0 where

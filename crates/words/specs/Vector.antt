@@ -1,7 +1,9 @@
--- Vectors and numbers by their bits. A vector is a list of four-state bits, lowest first; its length is its width.
+-- Vectors and numbers by their bits, for document 01, "Planes", which numbers the bits of a vector and of a word from 0. A vector is a list of
+-- four-state bits, lowest first; its length is its width.
+use mathlib.Core.Path.{_≡_}
 use mathlib.Core.List.{List, [], _∷_}
-use Prim.Native.Nat.{ℕ, zero, suc, _+_, _*_, _/_, _%_, _^_}
-use lib.ListN.{getD}
+use Prim.Native.Nat.{ℕ, zero, suc, _+_, _*_, _/_, _%_, _^_, _<_}
+use lib.ListN.{length, getD}
 use Rattle.bit.specs.declared.LogicBit.{LogicBit}
 use Rattle.bit.specs.declared.LogicBit.the-variants.{Zero}
 
@@ -9,6 +11,11 @@ use Rattle.bit.specs.declared.LogicBit.the-variants.{Zero}
 unfoldable pub tabulate {ℓ} : {A : Type ℓ} → ℕ → (ℕ → A) → List A
 tabulate zero f = []
 tabulate (suc n) f = f 0 ∷ tabulate n (λ i. f (suc i))
+
+-- of n places the first k are F 0, .., F (k - 1); d is what a place past the end reads
+pub record Written {A : Type 0} (d : A) (F : ℕ → A) (n k : ℕ) (out : List A) : Type 0 where
+  pub long : length out ≡ n
+  pub upto : (i : ℕ) → i < k → getD out i d ≡ F i
 
 -- bit i of a vector; 0 beyond its width
 abbrev pub at : List LogicBit → ℕ → LogicBit

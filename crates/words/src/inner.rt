@@ -8,7 +8,7 @@ ghost use mathlib.Core.Bool.{cond};
 ghost use lib.Dec.{eqb};
 ghost use lib.ListN.{length, getD};
 ghost use Rattle.words.specs.Vector.{tabulate, bitAt, pack};
-ghost use Rattle.words.specs.Planes.{wordCount, planeBit, digits, fromPlanes, clearAbove, masked, packed, wordAt, lent, planesOf};
+ghost use Rattle.words.specs.Planes.{wordCount, planeBit, planeDigits, fromPlanes, clearAbove, masked, packed, wordAt, lent, planesOf};
 
 // How many bits of word k lie below `width`.
 pub fn kept(width: u32, k: usize) -> usize
@@ -71,7 +71,7 @@ pub fn filled(b: LogicBit) -> Word
 // Word k of a plane; the bits at or above `width` are those of `fill`.
 fn extended_word(plane: &[u64], width: u32, k: usize, fill: u64) -> u64
     requires { ⌜ wordCount width ≤ length (now plane) ⌝ }
-    ensures { λ r. ⌜ r ≡ pack 64 (λ j. getD (digits width (now (plane .entry))) (k * 64 + j) (bitAt fill j)) ⌝ }
+    ensures { λ r. ⌜ r ≡ pack 64 (λ j. getD (planeDigits width (now (plane .entry))) (k * 64 + j) (bitAt fill j)) ⌝ }
 {
     let n = kept(width, k);
     if n == 64 {

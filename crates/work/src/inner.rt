@@ -8,7 +8,7 @@ use fold::inner::xor_bits;
 use join::inner::join_planes;
 use join::inner::not_planes;
 use lanes::Bitwise;
-use ops::Kind;
+use ops::Family;
 use ops::Op;
 use ops::Question;
 use value::Header;
@@ -173,17 +173,17 @@ pub fn work(
     requires { ⌜ (length (now ov) ≡ wordCount (opHeader op a b c .width)) × (length (now ou) ≡ wordCount (opHeader op a b c .width)) ⌝ }
     ensures { λ _. ⌜ lent (now (ov .exit)) (now (ou .exit)) ≡ planesOf (opBits op (vector a (lent (now (av .entry)) (now (au .entry)))) (vector b (lent (now (bv .entry)) (now (bu .entry)))) (vector c (lent (now (cv .entry)) (now (cu .entry)))) pos) ⌝ }
 {
-    match ops::kind_of(op) {
-        Kind::Join(j) => {
+    match ops::family_of(op) {
+        Family::Join(j) => {
             let width = extension::larger(a.width, b.width);
             join_planes(j, a, av, au, b, bv, bu, width, ov, ou)
         }
-        Kind::Not => not_planes(a.width, av, au, ov, ou),
-        Kind::Answer(q) => {
+        Family::Not => not_planes(a.width, av, au, ov, ou),
+        Family::Answer(q) => {
             let x = answer(q, a, av, au, b, bv, bu);
             write_bit(x, ov, ou)
         }
-        Kind::Select => select(a, av, au, b, bv, bu, c, cv, cu, ov, ou),
-        Kind::Insert => insert(a, av, au, b, bv, bu, pos, ov, ou),
+        Family::Select => select(a, av, au, b, bv, bu, c, cv, cu, ov, ou),
+        Family::Insert => insert(a, av, au, b, bv, bu, pos, ov, ou),
     }
 }

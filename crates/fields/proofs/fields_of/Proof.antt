@@ -4,13 +4,14 @@ use Prim.Native.Nat.{ℕ, _≤_, _-_}
 use native.Mathlib.Omega.{arith}
 use borrow.Author.Needs.{needs}
 use mathlib.Core.Bool.{Bool, false}
-use lib.ListN.{length, getD, replicate, length-map, length-replicate}
+use lib.ListN.{length, getD, length-map, length-replicate}
+use Rattle.words.specs.Vector.{Written}
+use Rattle.words.proofs.Fill.{start, more, map-done}
 use Rattle.store.specs.declared.Store.{Store}
 use Rattle.cells.specs.declared.Cell.{Cell}
 use Rattle.store.specs.Store.{noCell}
 use Rattle.fields.specs.declared.Fields.{Fields}
 use Rattle.fields.specs.Fields.{fields}
-use Rattle.fields.proofs.Filled.{Filled, start, more, map-done}
 use Rattle.fields.proofs.fields_of.Statement.{statement}
 use Rattle.fields.proofs.fields_of.Tie as tie
 
@@ -19,10 +20,10 @@ cell s i = getD (s .cells) i noCell
 
 -- the first k places of f are those of the store's cells
 record Copied (s : Store) (k : ℕ) (f : Fields) : Type 0 where
-  starts : Filled (λ i. cell s i .start) 0 320 k (f .starts)
-  widths : Filled (λ i. cell s i .header .width) 0 320 k (f .widths)
-  signs : Filled (λ i. cell s i .header .«is_signed») false 320 k (f .signs)
-  fills : Filled (λ i. cell s i .header .«is_fill») false 320 k (f .fills)
+  starts : Written 0 (λ i. cell s i .start) 320 k (f .starts)
+  widths : Written 0 (λ i. cell s i .header .width) 320 k (f .widths)
+  signs : Written false (λ i. cell s i .header .«is_signed») 320 k (f .signs)
+  fills : Written false (λ i. cell s i .header .«is_fill») 320 k (f .fills)
 
 abbrev Inv-loop : tie.InvT-loop
 Inv-loop s f₀ i₀ f i = (i ≤ 320) × Copied s i f
@@ -37,10 +38,10 @@ loop-holds : tie.Need-loop-holds Inv-loop μ-loop
 loop-holds c = (
   omega arith,
   record {
-    starts = start _ 0 320 (replicate 320 0) (length-replicate {A = ℕ} 320 0);
-    widths = start _ 0 320 (replicate 320 0) (length-replicate {A = ℕ} 320 0);
-    signs = start _ false 320 (replicate 320 false) (length-replicate {A = Bool} 320 false);
-    fills = start _ false 320 (replicate 320 false) (length-replicate {A = Bool} 320 false);
+    starts = start (length-replicate {A = ℕ} 320 0);
+    widths = start (length-replicate {A = ℕ} 320 0);
+    signs = start (length-replicate {A = Bool} 320 false);
+    fills = start (length-replicate {A = Bool} 320 false);
   },
 )
 
@@ -76,17 +77,13 @@ loop-less c = search needs
 
 loop-again : tie.Need-loop-again Inv-loop μ-loop
 loop-again c =
-    let l = c .before .before .before in
-    let k = l .loop .i in
-    let x = cell (l .before .args .t1) k in
-    let h = l .loop .inv .1 in
-    let f = l .loop .f in (
+    let h = c .before .before .before .loop .inv .1 in (
       search needs,
       record {
-        starts = more _ 0 320 (f .starts) k (x .start) (h .starts) (search needs) refl;
-        widths = more _ 0 320 (f .widths) k (x .header .width) (h .widths) (search needs) refl;
-        signs = more _ false 320 (f .signs) k (x .header .«is_signed») (h .signs) (search needs) refl;
-        fills = more _ false 320 (f .fills) k (x .header .«is_fill») (h .fills) (search needs) refl;
+        starts = more (h .starts) (search needs) refl;
+        widths = more (h .widths) (search needs) refl;
+        signs = more (h .signs) (search needs) refl;
+        fills = more (h .fills) (search needs) refl;
       },
     )
 
@@ -94,15 +91,13 @@ returns : tie.Need-returns Inv-loop μ-loop
 returns c =
     let l = c .before in
     let cs = l .before .args .t1 .cells in
-    let k = l .loop .i in
     let h = l .loop .inv .1 in
-    let f = l .loop .f in
     let m = c .loop-test .left in
     let e = places (l .before) in
-    let a = map-done (λ (x : Cell). x .start) 320 cs noCell e (f .starts) k (h .starts) m in
-    let b = map-done (λ (x : Cell). x .header .width) 320 cs noCell e (f .widths) k (h .widths) m in
-    let g = map-done (λ (x : Cell). x .header .«is_signed») 320 cs noCell e (f .signs) k (h .signs) m in
-    let d = map-done (λ (x : Cell). x .header .«is_fill») 320 cs noCell e (f .fills) k (h .fills) m in
+    let a = map-done (λ (x : Cell). x .start) 320 cs noCell e (h .starts) m in
+    let b = map-done (λ (x : Cell). x .header .width) 320 cs noCell e (h .widths) m in
+    let g = map-done (λ (x : Cell). x .header .«is_signed») 320 cs noCell e (h .signs) m in
+    let d = map-done (λ (x : Cell). x .header .«is_fill») 320 cs noCell e (h .fills) m in
     λ i. fields (a i) (b i) (g i) (d i)
 
 pub fields-of-spec : {M : Type 1} → statement M

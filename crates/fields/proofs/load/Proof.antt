@@ -5,17 +5,18 @@ use native.Mathlib.Omega.{arith}
 use borrow.Author.Needs.{needs}
 use mathlib.Core.List.{List}
 use lib.ListN.{length, length-replicate}
+use Rattle.words.specs.Vector.{Written}
+use Rattle.words.proofs.Fill.{start, more, done}
 use Rattle.cells.specs.declared.Cell.{Cell}
 use Rattle.store.specs.declared.Store.{Store}
 use Rattle.store.specs.Store.{noCell, emptyStore}
 use Rattle.fields.specs.declared.Fields.{Fields}
-use Rattle.fields.specs.Fields.{fields, cellAt}
-use Rattle.fields.proofs.Filled.{Filled, start, more, done}
+use Rattle.fields.specs.Fields.{fields, cellOf}
 use Rattle.fields.proofs.load.Statement.{statement}
 use Rattle.fields.proofs.load.Tie as tie
 
 abbrev Inv-loop : tie.InvT-loop
-Inv-loop count starts widths signs fills s₀ i₀ s i = (i ≤ 320) × Filled (cellAt (fields starts widths signs fills)) noCell 320 i (s .cells)
+Inv-loop count starts widths signs fills s₀ i₀ s i = (i ≤ 320) × Written noCell (cellOf (fields starts widths signs fills)) 320 i (s .cells)
 
 abbrev μ-loop : tie.MeasureT-loop
 μ-loop count starts widths signs fills s₀ i₀ s i = 320 - i
@@ -32,7 +33,7 @@ new-requires : tie.Need-new-requires Inv-loop μ-loop
 new-requires c κs = search needs
 
 loop-holds : tie.Need-loop-holds Inv-loop μ-loop
-loop-holds c = (omega arith, start (cellAt (all (c .before))) noCell 320 (c .new .result .cells) (places c))
+loop-holds c = (omega arith, start (places c))
 
 mul-t10 : tie.Need-mul-t10 Inv-loop μ-loop
 mul-t10 c = search needs
@@ -67,14 +68,13 @@ loop-less c = search needs
 loop-again : tie.Need-loop-again Inv-loop μ-loop
 loop-again c =
     let l = c .before .before .before .before .before in
-    let f = all (l .before .before) in
-    (search needs, more (cellAt f) noCell 320 (l .loop .s .cells) (l .loop .i) (cellAt f (l .loop .i)) (l .loop .inv .1) (search needs) refl)
+    (search needs, more (l .loop .inv .1) (search needs) refl)
 
 returns : tie.Need-returns Inv-loop μ-loop
 returns c =
     let l = c .before in
     let a = l .before .before .args in
-    ap (λ (cs : List Cell). record { cells = cs; count = a .count }) (done (cellAt (all (l .before .before))) noCell 320 (l .loop .s .cells) (l .loop .i) (l .loop .inv .1) (c .loop-test .left))
+    ap (λ (cs : List Cell). record { cells = cs; count = a .count }) (done (l .loop .inv .1) (c .loop-test .left))
 
 pub load-spec : {M : Type 1} → statement M
 load-spec =

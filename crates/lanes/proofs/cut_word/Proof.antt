@@ -1,8 +1,8 @@
 -- `lanes::cut_word`: both words masked.
-use mathlib.Core.Path.{_≡_, ap, _∙_}
+use mathlib.Core.Path.{ap, _∙_}
 use Prim.Native.Nat.{ℕ, _-_, _^_}
 use lib.Bits.{bitAnd}
-use Rattle.words.proofs.Extend.{wordBy}
+use Rattle.words.specs.Planes.{wordBy}
 use Rattle.lanes.specs.Lanes.{cutWord}
 use borrow.Author.Needs.{needs}
 use Rattle.lanes.proofs.cut_word.Statement.{statement}

@@ -1,17 +1,17 @@
--- `ops::arms_refused`: by the kind.
+-- `ops::arms_refused`: by the family.
 use mathlib.Core.Path.{_≡_, sym, ap, _∙_}
-use Rattle.ops.specs.declared.Kind.{Kind}
-use Rattle.ops.specs.Ops.{kindRefused, armsRefused}
+use Rattle.ops.specs.declared.Family.{Family}
+use Rattle.ops.specs.Ops.{familyRefused, armsRefused}
 use borrow.Author.Needs.{needs}
 use Rattle.ops.proofs.arms_refused.Statement.{statement}
 use Rattle.ops.proofs.arms_refused.Tie as tie
 
--- what follows from the kind that was told
-told : (c : tie.After-kind-of) (k : Kind) → c .kind-of .result ≡ k → let a = c .before .args in kindRefused k (a .b) (a .c) ≡ armsRefused (a .op) (a .b) (a .c)
-told c k e = let a = c .before .args in ap (λ (k : Kind). kindRefused k (a .b) (a .c)) (sym e ∙ c .kind-of .ensures)
+-- what follows from the family that was told
+told : (c : tie.After-family-of) (k : Family) → c .family-of .result ≡ k → let a = c .before .args in familyRefused k (a .b) (a .c) ≡ armsRefused (a .op) (a .b) (a .c)
+told c k e = let a = c .before .args in ap (λ (k : Family). familyRefused k (a .b) (a .c)) (sym e ∙ c .family-of .ensures)
 
-kind-of-requires : tie.Need-kind-of-requires
-kind-of-requires c κs = search needs
+family-of-requires : tie.Need-family-of-requires
+family-of-requires c κs = search needs
 
 enum-told : tie.Need-enum-told
 enum-told c = search needs
@@ -50,7 +50,7 @@ pub arms-refused-spec : {M : Type 1} → statement M
 arms-refused-spec =
     tie.close
     (tie.spec
-    kind-of-requires
+    family-of-requires
     enum-told
     enum-told-2
     enum-told-3

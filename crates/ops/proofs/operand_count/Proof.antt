@@ -1,18 +1,18 @@
--- `ops::operand_count`: by the kind, and for an answer by the question.
+-- `ops::operand_count`: by the family, and for an answer by the question.
 use mathlib.Core.Path.{_≡_, sym, ap, _∙_}
 use Rattle.ops.specs.declared.Question.{Question}
-use Rattle.ops.specs.declared.Kind.the-variants as kind
-use Rattle.ops.specs.Ops.{questionOperands, kindOperands, operands}
+use Rattle.ops.specs.declared.Family.the-variants as family
+use Rattle.ops.specs.Ops.{questionOperands, familyOperands, operands}
 use borrow.Author.Needs.{needs}
 use Rattle.ops.proofs.operand_count.Statement.{statement}
 use Rattle.ops.proofs.operand_count.Tie as tie
 
 -- what follows from the question that was told
 told : (c : tie.After-q) (q : Question) → c .q .given .0 .0 ≡ q → questionOperands q ≡ operands (c .before .before .before .args .op)
-told c q e = ap questionOperands (sym e) ∙ ap kindOperands (sym (c .q .given .1) ∙ c .before .before .kind-of .ensures)
+told c q e = ap questionOperands (sym e) ∙ ap familyOperands (sym (c .q .given .1) ∙ c .before .before .family-of .ensures)
 
-kind-of-requires : tie.Need-kind-of-requires
-kind-of-requires c κs = search needs
+family-of-requires : tie.Need-family-of-requires
+family-of-requires c κs = search needs
 
 enum-told : tie.Need-enum-told
 enum-told c = search needs
@@ -81,7 +81,7 @@ pub operand-count-spec : {M : Type 1} → statement M
 operand-count-spec =
     tie.close
     (tie.spec
-    kind-of-requires
+    family-of-requires
     enum-told
     enum-told-2
     enum-known-q

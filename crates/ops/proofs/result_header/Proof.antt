@@ -1,17 +1,17 @@
--- `ops::result_header`: by the kind.
+-- `ops::result_header`: by the family.
 use mathlib.Core.Path.{_≡_, sym, ap, _∙_}
-use Rattle.ops.specs.declared.Kind.{Kind}
-use Rattle.ops.specs.Ops.{kindHeader, opHeader}
+use Rattle.ops.specs.declared.Family.{Family}
+use Rattle.ops.specs.Ops.{familyHeader, opHeader}
 use borrow.Author.Needs.{needs}
 use Rattle.ops.proofs.result_header.Statement.{statement}
 use Rattle.ops.proofs.result_header.Tie as tie
 
--- what follows from the kind that was told
-told : (c : tie.After-kind-of) (k : Kind) → c .kind-of .result ≡ k → let a = c .before .args in kindHeader k (a .a) (a .b) (a .c) ≡ opHeader (a .op) (a .a) (a .b) (a .c)
-told c k e = let a = c .before .args in ap (λ (k : Kind). kindHeader k (a .a) (a .b) (a .c)) (sym e ∙ c .kind-of .ensures)
+-- what follows from the family that was told
+told : (c : tie.After-family-of) (k : Family) → c .family-of .result ≡ k → let a = c .before .args in familyHeader k (a .a) (a .b) (a .c) ≡ opHeader (a .op) (a .a) (a .b) (a .c)
+told c k e = let a = c .before .args in ap (λ (k : Family). familyHeader k (a .a) (a .b) (a .c)) (sym e ∙ c .family-of .ensures)
 
-kind-of-requires : tie.Need-kind-of-requires
-kind-of-requires c κs = search needs
+family-of-requires : tie.Need-family-of-requires
+family-of-requires c κs = search needs
 
 enum-known-j : tie.Need-enum-known-j
 enum-known-j c = search needs
@@ -55,7 +55,7 @@ pub result-header-spec : {M : Type 1} → statement M
 result-header-spec =
     tie.close
     (tie.spec
-    kind-of-requires
+    family-of-requires
     enum-known-j
     result-header-requires
     enum-told

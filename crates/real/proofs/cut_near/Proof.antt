@@ -5,7 +5,7 @@ use native.Mathlib.Nat.{one-mul, mod-eq-of-lt, mod-le, div-le-self, le-antisymm}
 use native.Mathlib.Numerals.{add-one}
 use native.Mathlib.Omega.{arith}
 use lib.Pow.{pow-pos, pow-lt}
-use Rattle.real.specs.Round.{stepped, wholeNear}
+use Rattle.real.specs.Round.{wholeBy, wholeNear}
 use Rattle.real.proofs.Near.{Cmp, compare-is}
 use borrow.Author.Needs.{needs}
 use Rattle.real.proofs.cut_near.Statement.{statement}
@@ -21,8 +21,8 @@ module _ (d k : ℕ) (l : k < 64) where
   unit-pos : 0 < unit
   unit-pos = rw unit-is (pow-pos k)
 
-  by-rest : (o : Ordering) → Cmp o (d % unit * 2) unit → stepped (d / unit) o ≡ wholeNear d (2 ^ k)
-  by-rest o h = ap (stepped (d / unit)) (sym (compare-is o (d % unit * 2) unit h)) ∙ ap (wholeNear d) unit-is
+  by-rest : (o : Ordering) → Cmp o (d % unit * 2) unit → wholeBy (d / unit) o ≡ wholeNear d (2 ^ k)
+  by-rest o h = ap (wholeBy (d / unit)) (sym (compare-is o (d % unit * 2) unit h)) ∙ ap (wholeNear d) unit-is
 
 shl-unit : tie.Need-shl-unit
 shl-unit c = search needs

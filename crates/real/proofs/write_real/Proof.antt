@@ -7,9 +7,9 @@ use borrow.Author.Needs.{needs}
 use lib.Bits.{bitAnd}
 use lib.Dec.{eqb}
 use lib.ListN.{length}
-use Rattle.words.specs.Vector.{at}
+use Rattle.words.specs.Vector.{at, Written}
 use Rattle.words.specs.Planes.{valueDigit, unknownDigit, wordCount, wordOf, lent}
-use Rattle.words.proofs.Fill.{Written, start, more, plane-done}
+use Rattle.words.proofs.Fill.{start, more, plane-done}
 use Rattle.real.specs.Round.{realVector}
 use Rattle.real.proofs.Wrap.{zeros-none, zeros-next, signedWord, value-word, unknown-word, real-length}
 use Rattle.real.proofs.write_real.Statement.{statement}
@@ -19,8 +19,8 @@ abbrev Inv-loop : tie.InvT-loop
 Inv-loop f width value₀ unknown₀ negative digits shift zeros₀ k₀ value unknown zeros k =
     (k ≤ length value₀)
     × (zeros ≡ eqb (digits * 2 ^ shift % 2 ^ (k * 64)) 0)
-    × Written (wordOf valueDigit (at (realVector width f))) (length value₀) k value
-    × Written (wordOf unknownDigit (at (realVector width f))) (length unknown₀) k unknown
+    × Written 0 (wordOf valueDigit (at (realVector width f))) (length value₀) k value
+    × Written 0 (wordOf unknownDigit (at (realVector width f))) (length unknown₀) k unknown
 
 abbrev μ-loop : tie.MeasureT-loop
 μ-loop f width value₀ unknown₀ negative digits shift zeros₀ k₀ value unknown zeros k = length value₀ - k
@@ -31,7 +31,7 @@ rounded-real-requires c κs = search needs
 loop-holds : tie.Need-loop-holds Inv-loop μ-loop
 loop-holds c =
     let r = c .rounded-real .result in
-    (omega arith, zeros-none (r .digits * 2 ^ r .shift), start _ _ _ refl, start _ _ _ refl)
+    (omega arith, zeros-none (r .digits * 2 ^ r .shift), start refl, start refl)
 
 size-word-requires : tie.Need-size-word-requires Inv-loop μ-loop
 size-word-requires c κs = omega arith
@@ -76,10 +76,10 @@ loop-again c =
     let w = x .size-word .ensures in (
       omega arith,
       ap₂ (λ (b : Bool) (y : ℕ). b && eqb y 0) (l .loop .inv .1) w ∙ zeros-next m k,
-      more _ _ _ _ _ (l .loop .inv .2) (omega arith)
+      more (l .loop .inv .2) (omega arith)
           (ap₂ bitAnd (c .signed-word .ensures ∙ ap (signedWord (r .result .negative) (l .loop .zeros)) w) (o .ones .ensures ∙ ap (λ (n : ℕ). 2 ^ n - 1) (o .before .kept .ensures))
           ∙ value-word (a .width) (a .f) k (r .result .negative) (l .loop .zeros) m _ (r .ensures) (l .loop .inv .1) refl),
-      more _ _ _ _ _ (l .loop .inv .3) (omega (arith, s .pre .0, s .pre .1)) (unknown-word (a .width) (a .f) k),
+      more (l .loop .inv .3) (omega (arith, s .pre .0, s .pre .1)) (unknown-word (a .width) (a .f) k),
     )
 
 same-length : tie.Need-same-length Inv-loop μ-loop

@@ -9,7 +9,7 @@ use Rattle.text.proofs.Names.{First, first-of}
 use Rattle.text.proofs.Names.First.{last, name}
 use Rattle.text.proofs.Places.{keyed, unkeyed}
 use Rattle.opline.specs.OpLine.{nameLine}
-use Rattle.steplist.specs.Listing.{kindKey, marksName, allMarks}
+use Rattle.steplist.specs.Listing.{kindKey, kindName, allKinds}
 use borrow.Author.Needs.{needs}
 use Rattle.steplist.proofs.kind_line.Statement.{statement}
 use Rattle.steplist.proofs.kind_line.Tie as tie
@@ -31,7 +31,7 @@ unfolding nameLine
 returns c =
     let w = c .before .before in
     let a = w .before .before .before .args in
-    ap (lineIn (a .s .now)) (sym (unkeyed kindKey (oneOf (map marksName allMarks) 0) (a .s .now) (a .at) (sym (w .skip .ensures) ∙ c .enum-told .given .1)))
+    ap (lineIn (a .s .now)) (sym (unkeyed kindKey (oneOf (map kindName allKinds) 0) (a .s .now) (a .at) (sym (w .skip .ensures) ∙ c .enum-told .given .1)))
 
 slice-aggregate-named : tie.Need-slice-aggregate-named
 slice-aggregate-named c = search needs
@@ -60,10 +60,10 @@ returns-2 c =
     let w = n1 .before .before .before .before .before in
     let a = w .before .before .before .args in
     let s : List ℕ = a .s .now in
-    let f : First s (drop (i .given .0 .0) s) (map marksName allMarks) 0 (c .named3 .result) =
+    let f : First s (drop (i .given .0 .0) s) (map kindName allKinds) 0 (c .named3 .result) =
     name (c .named3 .ensures) (name (n2 .named2 .ensures) (name (n1 .named .ensures) last))
     in
-    first-of f ∙ ap (lineIn s) (sym (keyed kindKey (oneOf (map marksName allMarks) 0) s (a .at) (i .given .0 .0) (sym (w .skip .ensures) ∙ i .given .1)))
+    first-of f ∙ ap (lineIn s) (sym (keyed kindKey (oneOf (map kindName allKinds) 0) s (a .at) (i .given .0 .0) (sym (w .skip .ensures) ∙ i .given .1)))
 
 pub kind-line-spec : {M : Type 1} → statement M
 kind-line-spec =

@@ -5,14 +5,14 @@ use Prim.Native.Nat.{ℕ}
 use native.Mathlib.Omega.{arith}
 use lib.ListN.{drop}
 use Rattle.bit.specs.declared.LogicBit.{LogicBit}
-use Rattle.text.specs.Read.{numberLine, bitsLine}
+use Rattle.text.specs.Read.{numberLine, bitsKey, bitsLine}
 use Rattle.text.specs.Read.Got.{found}
 use Rattle.text.proofs.Vectors.{bitsLine-exact}
 use Rattle.text.proofs.Places.{line-found, line-broken, line-within, place-found, place-absent}
 use Rattle.opline.specs.OpLine.{nameLine, choiceLine}
 use Rattle.opline.proofs.Names.{name-exact}
-use Rattle.steplist.specs.Listing.{widthKey, kindKey, bitsKey, marksName, allMarks, input}
-use Rattle.steplist.proofs.Parts.{line-at, line-not, marked-at, bits-stand}
+use Rattle.steplist.specs.Listing.{widthKey, kindKey, kindName, allKinds, input}
+use Rattle.steplist.proofs.Parts.{line-at, line-not, header-at, bits-stand}
 use borrow.Author.Needs.{needs}
 use Rattle.steplist.proofs.read_input.Statement.{statement}
 use Rattle.steplist.proofs.read_input.Tie as tie
@@ -46,9 +46,9 @@ abbrev behind-kind : tie.After-known-told2 → ℕ
 behind-kind c = c .before .kind .given .0 .1 .0
 
 got-kind : (c : tie.After-known-told2) → let s = text (start2 c) in
-    nameLine kindKey (map marksName allMarks) (drop (behind-width (one c)) s) ≡ found (c .before .kind .given .0 .0) (drop (behind-kind c) s)
+    nameLine kindKey (map kindName allKinds) (drop (behind-width (one c)) s) ≡ found (c .before .kind .given .0 .0) (drop (behind-kind c) s)
 got-kind c =
-    line-found (name-exact kindKey (map marksName allMarks) refl) (text (start2 c)) (behind-width (one c)) _ _
+    line-found (name-exact kindKey (map kindName allKinds) refl) (text (start2 c)) (behind-width (one c)) _ _
     (sym (c .before .before .before .kind-line .ensures) ∙ c .before .kind .given .1)
 
 abbrev two : tie.After-known-told3 → tie.After-known-told2
@@ -94,7 +94,7 @@ returns-2 c =
     let w = c .before .before in
     let k = w .before in
     let s = text (start1 k) in
-    rw (got-width k, line-broken s (nameLine kindKey (map marksName allMarks) (drop (behind-width k) s)) (sym (w .kind-line .ensures) ∙ c .enum-told2 .given .1))
+    rw (got-width k, line-broken s (nameLine kindKey (map kindName allKinds) (drop (behind-width k) s)) (sym (w .kind-line .ensures) ∙ c .enum-told2 .given .1))
 
 slice-aggregate-bits-line : tie.Need-slice-aggregate-bits-line
 slice-aggregate-bits-line c = search needs
@@ -120,7 +120,7 @@ add-t20 : tie.Need-add-t20
 add-t20 c =
     let k = two c in
     let s = text (start2 k) in
-    let fits = line-within s (nameLine kindKey (map marksName allMarks) (drop (behind-width (one k)) s)) _ _
+    let fits = line-within s (nameLine kindKey (map kindName allKinds) (drop (behind-width (one k)) s)) _ _
     (sym (k .before .before .before .kind-line .ensures) ∙ k .before .kind .given .1) in
     omega (arith, fits, start2 k .good)
 
@@ -130,7 +130,7 @@ returns-4 c =
     let k = two c in
     let s = text (start2 k) in
     let b = got-bits c in
-    rw (got-width (one k), got-kind k, b .1, marked-at, bits-stand s (behind-kind k) (wide k) (b .0) _ (b .1))
+    rw (got-width (one k), got-kind k, b .1, header-at, bits-stand s (behind-kind k) (wide k) (b .0) _ (b .1))
 
 pub read-input-spec : {M : Type 1} → statement M
 read-input-spec =

@@ -1,10 +1,10 @@
 -- `bits::inner::extract64`: each plane's word, masked.
-use mathlib.Core.Path.{_≡_, refl, sym, ap, ap₂, _∙_}
-use Prim.Native.Nat.{ℕ, _-_, _^_}
+use mathlib.Core.Path.{refl, ap₂, _∙_}
+use Prim.Native.Nat.{_-_}
 use lib.Bits.{bitAnd}
-use Rattle.words.specs.Planes.{valueDigit, unknownDigit}
+use Rattle.words.specs.Planes.{valueDigit, unknownDigit, wordBy}
 use Rattle.words.proofs.Planes.{value-digit-lt, unknown-digit-lt}
-use Rattle.words.proofs.Extend.{wordBy, value-is, unknown-is}
+use Rattle.words.proofs.Extend.{value-is, unknown-is}
 use Rattle.bits.proofs.Splice.{extracted-word}
 use borrow.Author.Needs.{needs}
 use Rattle.bits.proofs.inner.extract64.Statement.{statement}

@@ -6,9 +6,9 @@ use native.Mathlib.Omega.{arith}
 use lib.ListN.{length}
 use borrow.Author.Needs.{needs}
 use Rattle.words.specs.declared.Word.{Word}
-use Rattle.words.specs.Vector.{at}
+use Rattle.words.specs.Vector.{at, Written}
 use Rattle.words.specs.Planes.{valueDigit, unknownDigit, wordCount, wordOf, lent}
-use Rattle.words.proofs.Fill.{Written, start, more, plane-done}
+use Rattle.words.proofs.Fill.{start, more, plane-done}
 use Rattle.text.specs.Answers.{bitsIn}
 use Rattle.charplanes.proofs.Characters.{length-in, word-at}
 use Rattle.charplanes.proofs.inner.fill_planes.Statement.{statement}
@@ -18,15 +18,15 @@ abbrev Inv-loop : tie.InvT-loop
 Inv-loop s place width value₀ unknown₀ left₀ k₀ value unknown left k =
     (k ≤ length value₀)
     × (left ≡ width - k * 64)
-    × Written (wordOf valueDigit (at (bitsIn s place width))) (length value₀) k value
-    × Written (wordOf unknownDigit (at (bitsIn s place width))) (length unknown₀) k unknown
+    × Written 0 (wordOf valueDigit (at (bitsIn s place width))) (length value₀) k value
+    × Written 0 (wordOf unknownDigit (at (bitsIn s place width))) (length unknown₀) k unknown
 
 abbrev μ-loop : tie.MeasureT-loop
 μ-loop s place width value₀ unknown₀ left₀ k₀ value unknown left k = length value₀ - k
 
 -- src/inner.rt:65:5
 loop-holds : tie.Need-loop-holds Inv-loop μ-loop
-loop-holds c = (omega arith, omega arith, start _ _ _ refl, start _ _ _ refl)
+loop-holds c = (omega arith, omega arith, start refl, start refl)
 
 -- src/inner.rt:66:13
 least-requires : tie.Need-least-requires Inv-loop μ-loop
@@ -84,8 +84,8 @@ loop-again c =
     let x = c .read-word .ensures in (
       omega arith,
       omega arith,
-      more _ _ _ _ _ (l .loop .inv .2) (omega arith) (ap (λ (y : Word). y .value) x ∙ word-at valueDigit s (a .place) (a .width) k n (left - n) (z .pre .0) e f),
-      more _ _ _ _ _ (l .loop .inv .3) (omega (arith, z .pre .1 .0, z .pre .1 .1))
+      more (l .loop .inv .2) (omega arith) (ap (λ (y : Word). y .value) x ∙ word-at valueDigit s (a .place) (a .width) k n (left - n) (z .pre .0) e f),
+      more (l .loop .inv .3) (omega (arith, z .pre .1 .0, z .pre .1 .1))
           (ap (λ (y : Word). y .unknown) x ∙ word-at unknownDigit s (a .place) (a .width) k n (left - n) (z .pre .0) e f),
     )
 

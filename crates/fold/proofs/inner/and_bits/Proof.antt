@@ -4,19 +4,19 @@ use Rattle.fold.specs.declared.Truth.{Truth}
 use mathlib.Core.Path.{_≡_, sym, ap, _∙_}
 use Rattle.bit.specs.Rules.{notBit}
 use Rattle.fold.specs.Fold.{truthBit, reduceAnd}
-use Rattle.fold.proofs.Folds.{holds-and}
+use Rattle.fold.proofs.Folds.{contains-and}
 use borrow.Author.Needs.{needs}
 use Rattle.fold.proofs.inner.and_bits.Statement.{statement}
 use Rattle.fold.proofs.inner.and_bits.Tie as tie
 
-by-case : (c : tie.After-holds) (t : Truth) → c .holds .result ≡ t → let a = c .before .before .before .args in
+by-case : (c : tie.After-contains) (t : Truth) → c .contains .result ≡ t → let a = c .before .before .before .args in
     notBit (truthBit t) ≡ reduceAnd (fromPlanes (a .width) (a .value .now) (a .unknown .now))
 by-case c t e =
     let a = c .before .before .before .args in
-    ap (λ (t : Truth). notBit (truthBit t)) (sym e ∙ c .holds .ensures) ∙ holds-and (fromPlanes (a .width) (a .value .now) (a .unknown .now))
+    ap (λ (t : Truth). notBit (truthBit t)) (sym e ∙ c .contains .ensures) ∙ contains-and (fromPlanes (a .width) (a .value .now) (a .unknown .now))
 
-holds-requires : tie.Need-holds-requires
-holds-requires c κs = search needs
+contains-requires : tie.Need-contains-requires
+contains-requires c κs = search needs
 
 enum-told : tie.Need-enum-told
 enum-told c = search needs
@@ -39,4 +39,4 @@ returns-3 c = by-case (c .before .before) _ (c .enum-told3 .given .1)
 pub and-bits-spec : {M : Type 1} → statement M
 and-bits-spec =
     tie.close
-    (tie.spec holds-requires enum-told enum-told-2 enum-told-3 returns returns-2 returns-3)
+    (tie.spec contains-requires enum-told enum-told-2 enum-told-3 returns returns-2 returns-3)

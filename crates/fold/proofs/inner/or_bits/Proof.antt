@@ -1,3 +1,4 @@
+-- `fold::inner::or_bits`: the truth of the vector, as a bit.
 use Rattle.words.specs.Planes.{fromPlanes}
 use mathlib.Core.Path.{_∙_, ap}
 use Rattle.fold.specs.Fold.{truthBit}

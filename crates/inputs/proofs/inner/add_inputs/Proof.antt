@@ -16,7 +16,7 @@ use Rattle.steplist.specs.declared.StepList.{StepList}
 use Rattle.steplist.specs.Answers.{noInput, inputIn}
 use Rattle.inputs.specs.Inputs.{addListed}
 use Rattle.inputs.specs.Limits.{Thin}
-use Rattle.inputs.proofs.Narrow.{narrow-new}
+use Rattle.inputs.proofs.Thin.{thin-new}
 use Rattle.inputs.proofs.Loops.{Fed, feed-start, feed-more, feed-last, feed-done}
 use borrow.Author.Needs.{needs}
 use Rattle.inputs.proofs.inner.add_inputs.Statement.{statement}
@@ -78,7 +78,7 @@ loop-holds c =
       value-long = refl;
       unknown-long = refl;
       within = omega arith;
-      fed = feed-start (a .t1 .«input_count») (input (a .text .now) (a .t1)) (state emptyStore (lent (a .arena-value .now) (a .arena-unknown .now))) _ e narrow-new;
+      fed = feed-start (a .t1 .«input_count») (input (a .text .now) (a .t1)) (state emptyStore (lent (a .arena-value .now) (a .arena-unknown .now))) _ e thin-new;
     }
 
 mul-x : tie.Need-mul-x Inv-loop μ-loop

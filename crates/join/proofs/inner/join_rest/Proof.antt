@@ -1,16 +1,15 @@
 -- `join::inner::join_rest`: the words below k are those of the result.
 use Rattle.extension.proofs.Extension.{extentOver}
-use mathlib.Core.Path.{_≡_, refl, sym, ap, ap₂, _∙_}
-use mathlib.Core.List.{List}
-use Prim.Native.Nat.{ℕ, _≤_, _-_}
+use mathlib.Core.Path.{sym, ap, ap₂, _∙_}
+use Prim.Native.Nat.{ℕ, _-_}
 use native.Mathlib.Omega.{arith}
 use lib.ListN.{length, getD}
 use Rattle.bit.specs.declared.LogicBit.{LogicBit}
 use Rattle.words.specs.declared.Word.{Word}
-use Rattle.words.specs.Vector.{at, tabulate}
+use Rattle.words.specs.Vector.{at, Written}
 use Rattle.words.specs.Planes.{valueDigit, unknownDigit, wordCount, fromPlanes, wordOf, lent}
 use Rattle.words.proofs.Planes.{length-tabulate}
-use Rattle.words.proofs.Fill.{Written, more, plane-done}
+use Rattle.words.proofs.Fill.{more, plane-done}
 use Rattle.lanes.specs.Lanes.{opBit}
 use Rattle.join.specs.Joined.{joinedOver}
 use Rattle.lanes.proofs.Places.{rest-word}
@@ -20,8 +19,8 @@ use Rattle.join.proofs.inner.join_rest.Tie as tie
 
 abbrev Inv-loop : tie.InvT-loop
 Inv-loop op av au bv bu width ov₀ ou₀ from aw ab bw bb k₀ ov ou k =
-    Written (wordOf valueDigit (at (joinedOver op width (extentOver aw ab) (lent av au) (extentOver bw bb) (lent bv bu)))) (length ov₀) k ov
-    × Written (wordOf unknownDigit (at (joinedOver op width (extentOver aw ab) (lent av au) (extentOver bw bb) (lent bv bu)))) (length ou₀) k ou
+    Written 0 (wordOf valueDigit (at (joinedOver op width (extentOver aw ab) (lent av au) (extentOver bw bb) (lent bv bu)))) (length ov₀) k ov
+    × Written 0 (wordOf unknownDigit (at (joinedOver op width (extentOver aw ab) (lent av au) (extentOver bw bb) (lent bv bu)))) (length ou₀) k ou
 
 abbrev μ-loop : tie.MeasureT-loop
 μ-loop op av au bv bu width ov₀ ou₀ from aw ab bw bb k₀ ov ou k = length ov₀ - k
@@ -68,8 +67,8 @@ loop-again c =
     let f : ℕ → LogicBit = λ i. getD (fromPlanes (a .a .width) (a .av .now) (a .au .now)) i (a .a .beyond) in
     let g : ℕ → LogicBit = λ i. getD (fromPlanes (a .b .width) (a .bv .now) (a .bu .now)) i (a .b .beyond) in
     let e = c .rest-word .ensures ∙ rest-word (opBit (a .op)) f g (a .width) (l .loop .k) (x .operand-word .result) (y .operand-word2 .result) (x .operand-word .ensures) (y .operand-word2 .ensures) in (
-      more _ _ _ _ _ (l .loop .inv .0) (omega arith) (ap (λ (w : Word). w .value) e),
-      more _ _ _ _ _ (l .loop .inv .1) (omega (arith, s .pre)) (ap (λ (w : Word). w .unknown) e),
+      more (l .loop .inv .0) (omega arith) (ap (λ (w : Word). w .value) e),
+      more (l .loop .inv .1) (omega (arith, s .pre)) (ap (λ (w : Word). w .unknown) e),
     )
 
 same-length : tie.Need-same-length Inv-loop μ-loop

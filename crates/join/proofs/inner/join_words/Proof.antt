@@ -1,13 +1,14 @@
 -- `join::inner::join_words`: the words below k are the lanes of the operands' words.
 use Rattle.lanes.proofs.Places.{fewer}
-use mathlib.Core.Path.{_≡_, refl, ap}
+use mathlib.Core.Path.{refl, ap}
 use mathlib.Core.List.{List}
 use Prim.Native.Nat.{ℕ, _≤_, _-_}
 use native.Mathlib.Omega.{arith}
 use lib.ListN.{length, getD}
 use Rattle.words.specs.declared.Word.{Word}
-use Rattle.words.proofs.Extend.{wordBy}
-use Rattle.words.proofs.Fill.{Written, start, more}
+use Rattle.words.specs.Planes.{wordBy}
+use Rattle.words.specs.Vector.{Written}
+use Rattle.words.proofs.Fill.{start, more}
 use Rattle.lanes.specs.declared.Bitwise.{Bitwise}
 use Rattle.lanes.specs.Lanes.{opBit}
 use Rattle.lanes.specs.Lanes.{laneWord}
@@ -22,14 +23,14 @@ joins op av au bv bu k = laneWord (opBit op) (wordBy (getD av k 0) (getD au k 0)
 abbrev Inv-loop : tie.InvT-loop
 Inv-loop op av au bv bu ov₀ ou₀ n k₀ ov ou k =
     (k ≤ n)
-    × Written (λ i. joins op av au bv bu i .value) (length ov₀) k ov
-    × Written (λ i. joins op av au bv bu i .unknown) (length ou₀) k ou
+    × Written 0 (λ i. joins op av au bv bu i .value) (length ov₀) k ov
+    × Written 0 (λ i. joins op av au bv bu i .unknown) (length ou₀) k ou
 
 abbrev μ-loop : tie.MeasureT-loop
 μ-loop op av au bv bu ov₀ ou₀ n k₀ ov ou k = n - k
 
 loop-holds : tie.Need-loop-holds Inv-loop μ-loop
-loop-holds c = (omega arith, start _ _ _ refl, start _ _ _ refl)
+loop-holds c = (omega arith, start refl, start refl)
 
 mul-t14 : tie.Need-mul-t14 Inv-loop μ-loop
 mul-t14 c = search needs
@@ -81,8 +82,8 @@ loop-again c =
     let l = c .before .before .before .before .before .before in
     let s = l .before .before .before .before .before .before .before in (
       omega arith,
-      more _ _ _ _ _ (l .loop .inv .1) (omega (arith, s .pre)) (ap (λ (w : Word). w .value) (c .lanes .ensures)),
-      more _ _ _ _ _ (l .loop .inv .2) (omega (arith, s .pre)) (ap (λ (w : Word). w .unknown) (c .lanes .ensures)),
+      more (l .loop .inv .1) (omega (arith, s .pre)) (ap (λ (w : Word). w .value) (c .lanes .ensures)),
+      more (l .loop .inv .2) (omega (arith, s .pre)) (ap (λ (w : Word). w .unknown) (c .lanes .ensures)),
     )
 
 same-length : tie.Need-same-length Inv-loop μ-loop

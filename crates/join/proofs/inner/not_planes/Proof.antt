@@ -1,19 +1,17 @@
 -- `join::inner::not_planes`: the words below k are those of the result; the last one is cut off at the width.
 use mathlib.Core.Path.{_≡_, refl, sym, ap, ap₂, _∙_}
 use mathlib.Core.List.{List}
-use Prim.Native.Nat.{ℕ, _+_, _≤_, _<_, _-_}
+use Prim.Native.Nat.{ℕ, _≤_, _-_}
 use native.Mathlib.Omega.{arith}
 use lib.ListN.{length, getD}
 use Rattle.bit.specs.declared.LogicBit.{LogicBit}
 use Rattle.bit.specs.Rules.{notBit}
 use Rattle.words.specs.declared.Word.{Word}
-use Rattle.words.specs.Vector.{at, tabulate}
-use Rattle.words.specs.Planes.{valueDigit, unknownDigit, wordCount, fromPlanes, wordOf, lent, planesOf}
+use Rattle.words.specs.Vector.{at, tabulate, Written}
+use Rattle.words.specs.Planes.{valueDigit, unknownDigit, wordCount, fromPlanes, wordOf, lent, planesOf, wordBy}
 use Rattle.words.proofs.Planes.{length-tabulate, operand}
-use Rattle.words.proofs.Extend.{wordBy}
-use Rattle.words.proofs.Fill.{Written, start, more, plane-done}
-use Rattle.join.specs.Joined.{inverted}
-use Rattle.lanes.specs.Lanes.{laneOne, cutWord}
+use Rattle.words.proofs.Fill.{start, more, plane-done}
+use Rattle.lanes.specs.Lanes.{cutWord}
 use Rattle.lanes.proofs.Places.{one-whole, one-cut}
 use borrow.Author.Needs.{needs}
 use Rattle.join.proofs.inner.not_planes.Statement.{statement}
@@ -26,8 +24,8 @@ result w v u = tabulate w (λ i. notBit (at (fromPlanes w v u) i))
 abbrev Inv-loop : tie.InvT-loop
 Inv-loop width av au ov₀ ou₀ last k₀ ov ou k =
     (k ≤ last)
-    × Written (wordOf valueDigit (at (result width av au))) (length ov₀) k ov
-    × Written (wordOf unknownDigit (at (result width av au))) (length ou₀) k ou
+    × Written 0 (wordOf valueDigit (at (result width av au))) (length ov₀) k ov
+    × Written 0 (wordOf unknownDigit (at (result width av au))) (length ou₀) k ou
 
 abbrev μ-loop : tie.MeasureT-loop
 μ-loop width av au ov₀ ou₀ last k₀ ov ou k = last - k
@@ -36,7 +34,7 @@ sub-last : tie.Need-sub-last Inv-loop μ-loop
 sub-last c = search needs
 
 loop-holds : tie.Need-loop-holds Inv-loop μ-loop
-loop-holds c = (omega arith, start _ _ _ refl, start _ _ _ refl)
+loop-holds c = (omega arith, start refl, start refl)
 
 mul-t14 : tie.Need-mul-t14 Inv-loop μ-loop
 mul-t14 c = search needs
@@ -80,8 +78,8 @@ loop-again c =
     let u = a .au .now in
     let e = c .not-word .ensures ∙ one-whole notBit (at (fromPlanes (a .width) v u)) (a .width) (l .loop .k) (wordBy (getD v (l .loop .k) 0) (getD u (l .loop .k) 0)) (operand (a .width) v u (s .pre .0 .0) (s .pre .0 .1) (l .loop .k)) (omega (arith, s .pre .1 .0)) in (
       omega arith,
-      more _ _ _ _ _ (l .loop .inv .1) (omega (arith, s .pre .1 .0)) (ap (λ (w : Word). w .value) e),
-      more _ _ _ _ _ (l .loop .inv .2) (omega (arith, s .pre .1 .0, s .pre .1 .1)) (ap (λ (w : Word). w .unknown) e),
+      more (l .loop .inv .1) (omega (arith, s .pre .1 .0)) (ap (λ (w : Word). w .value) e),
+      more (l .loop .inv .2) (omega (arith, s .pre .1 .0, s .pre .1 .1)) (ap (λ (w : Word). w .unknown) e),
     )
 
 mul-t12 : tie.Need-mul-t12 Inv-loop μ-loop
@@ -134,8 +132,8 @@ returns c =
     let e = c .cut-word .ensures ∙ ap (cutWord (a .width) last) (c .before .not-word2 .ensures) ∙ one-cut notBit (at (fromPlanes (a .width) v u)) (a .width) last (wordBy (getD v last 0) (getD u last 0)) (operand (a .width) v u (s .pre .0 .0) (s .pre .0 .1) last) in
     let q = ap wordCount (sym (length-tabulate (a .width) _)) in
     ap₂ lent
-    (plane-done valueDigit (result (a .width) v u) _ _ _ (more _ _ _ _ _ (rw z at (h .1)) (omega (arith, p .0)) (ap (λ (w : Word). w .value) e)) (omega (arith, p .0)) (p .0 ∙ q))
-    (plane-done unknownDigit (result (a .width) v u) _ _ _ (more _ _ _ _ _ (rw z at (h .2)) (omega (arith, p .0, p .1)) (ap (λ (w : Word). w .unknown) e)) (omega (arith, p .0, p .1)) (p .1 ∙ q))
+    (plane-done valueDigit (result (a .width) v u) _ _ _ (more (rw z at (h .1)) (omega (arith, p .0)) (ap (λ (w : Word). w .value) e)) (omega (arith, p .0)) (p .0 ∙ q))
+    (plane-done unknownDigit (result (a .width) v u) _ _ _ (more (rw z at (h .2)) (omega (arith, p .0, p .1)) (ap (λ (w : Word). w .unknown) e)) (omega (arith, p .0, p .1)) (p .1 ∙ q))
     ∙ ap (λ (n : ℕ). planesOf (tabulate n (λ i. notBit (at (fromPlanes (a .width) v u) i)))) (sym (length-tabulate (a .width) _))
 
 pub not-planes-spec : {M : Type 1} → statement M

@@ -1,10 +1,11 @@
 -- `output::inner::put_cell`: the line of the number, and the line of the bits behind it.
 use mathlib.Core.List.{_++_}
 use native.Mathlib.Omega.{arith}
+use Rattle.text.specs.Read.{bitsKey}
 use Rattle.text.specs.Write.{numberText, bitsText}
 use Rattle.words.specs.Planes.{fromPlanes}
 use Rattle.lines.proofs.Put.{length-line, place-of, after}
-use Rattle.output.specs.Output.{cellKey, bitsKey, cellText}
+use Rattle.output.specs.Output.{cellKey, cellText}
 use Rattle.output.proofs.Room.{decimal-three}
 use borrow.Author.Needs.{needs}
 use Rattle.output.proofs.inner.put_cell.Statement.{statement}

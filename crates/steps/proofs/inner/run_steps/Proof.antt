@@ -14,7 +14,7 @@ use Rattle.store.specs.Store.{state, cellAnswer}
 use Rattle.output.specs.Output.{doneText}
 use Rattle.store.specs.Step.{Memory, memory, stepVector, addStep}
 use Rattle.steplist.specs.declared.StepList.{StepList}
-use Rattle.steplist.specs.Answers.{noStep}
+use Rattle.ops.specs.Ops.{noStep}
 use Rattle.turn.specs.Turn.{stepText}
 use Rattle.steps.specs.Run.{written}
 use Rattle.steps.proofs.Loops.{Walked, walk-start, walk-more, walk-last, walk-done}

@@ -1,19 +1,19 @@
 -- `words::inner::extend_into`: the words below k are those of the vector.
-use mathlib.Core.Path.{_≡_, refl, sym, ap, ap₂, _∙_}
+use mathlib.Core.Path.{refl, sym, ap, ap₂, _∙_}
 use mathlib.Core.List.{List}
-use Prim.Native.Nat.{ℕ, _≤_, _<_, _-_, _^_}
+use Prim.Native.Nat.{ℕ, _≤_, _-_, _^_}
 use native.Mathlib.Omega.{arith}
 use borrow.Author.Needs.{needs}
 use lib.Bits.{bitAnd}
 use lib.ListN.{length, getD}
 use Rattle.bit.specs.declared.LogicBit.{LogicBit}
 use Rattle.words.specs.declared.Word.{Word}
-use Rattle.words.specs.Vector.{tabulate, at}
+use Rattle.words.specs.Vector.{tabulate, at, Written}
 use Rattle.words.specs.Planes.{valueDigit, unknownDigit, wordCount, fromPlanes, wordOf}
 use Rattle.words.specs.Planes.{lent}
 use Rattle.words.proofs.Planes.{length-tabulate, value-digit-lt, unknown-digit-lt}
 use Rattle.words.proofs.Extend.{cut-vector}
-use Rattle.words.proofs.Fill.{Written, start, more, plane-done}
+use Rattle.words.proofs.Fill.{start, more, plane-done}
 use Rattle.words.proofs.inner.extend_into.Statement.{statement}
 use Rattle.words.proofs.inner.extend_into.Tie as tie
 
@@ -24,14 +24,14 @@ vector w v u from b = tabulate w (λ i. getD (fromPlanes from v u) i b)
 abbrev Inv-loop : tie.InvT-loop
 Inv-loop width value₀ unknown₀ from-value from-unknown from-width beyond k₀ value unknown k =
     (k ≤ length value₀)
-    × Written (wordOf valueDigit (at (vector width from-value from-unknown from-width beyond))) (length value₀) k value
-    × Written (wordOf unknownDigit (at (vector width from-value from-unknown from-width beyond))) (length unknown₀) k unknown
+    × Written 0 (wordOf valueDigit (at (vector width from-value from-unknown from-width beyond))) (length value₀) k value
+    × Written 0 (wordOf unknownDigit (at (vector width from-value from-unknown from-width beyond))) (length unknown₀) k unknown
 
 abbrev μ-loop : tie.MeasureT-loop
 μ-loop width value₀ unknown₀ from-value from-unknown from-width beyond k₀ value unknown k = length value₀ - k
 
 loop-holds : tie.Need-loop-holds Inv-loop μ-loop
-loop-holds c = (omega arith, start _ _ _ refl, start _ _ _ refl)
+loop-holds c = (omega arith, start refl, start refl)
 
 operand-word-requires : tie.Need-operand-word-requires Inv-loop μ-loop
 operand-word-requires c κs = search needs
@@ -71,9 +71,9 @@ loop-again c =
     let m = o .ones .ensures ∙ ap (λ (n : ℕ). 2 ^ n - 1) (o .before .kept .ensures) in
     let x = w .operand-word .ensures in (
       omega arith,
-      more _ _ _ _ _ (l .loop .inv .1) (omega arith)
+      more (l .loop .inv .1) (omega arith)
           (ap₂ bitAnd (ap (λ (y : Word). y .value) x) m ∙ cut-vector valueDigit value-digit-lt refl (a .width) (l .loop .k) _ f refl),
-      more _ _ _ _ _ (l .loop .inv .2) (omega (arith, s .pre .0 .0, s .pre .0 .1))
+      more (l .loop .inv .2) (omega (arith, s .pre .0 .0, s .pre .0 .1))
           (ap₂ bitAnd (ap (λ (y : Word). y .unknown) x) m ∙ cut-vector unknownDigit unknown-digit-lt refl (a .width) (l .loop .k) _ f refl),
     )
 

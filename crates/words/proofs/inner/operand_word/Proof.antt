@@ -1,10 +1,9 @@
 -- `words::inner::operand_word`: each plane by its digit.
-use mathlib.Core.Path.{_≡_, sym, ap, ap₂, _∙_}
-use Prim.Native.Nat.{ℕ}
+use mathlib.Core.Path.{ap, ap₂, _∙_}
 use Rattle.words.specs.declared.Word.{Word}
-use Rattle.words.specs.Planes.{valueDigit, unknownDigit}
+use Rattle.words.specs.Planes.{valueDigit, unknownDigit, wordBy}
 use Rattle.words.proofs.Planes.{value-digit-lt, unknown-digit-lt}
-use Rattle.words.proofs.Extend.{wordBy, operand, value-is, unknown-is}
+use Rattle.words.proofs.Extend.{operand, value-is, unknown-is}
 use borrow.Author.Needs.{needs}
 use Rattle.words.proofs.inner.operand_word.Statement.{statement}
 use Rattle.words.proofs.inner.operand_word.Tie as tie

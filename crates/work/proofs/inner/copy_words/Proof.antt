@@ -4,19 +4,20 @@ use Prim.Native.Nat.{_-_}
 use native.Mathlib.Omega.{arith}
 use lib.ListN.{length, getD}
 use lib.Seq.{ext-getD}
-use Rattle.words.proofs.Fill.{Written, start, more}
+use Rattle.words.specs.Vector.{Written}
+use Rattle.words.proofs.Fill.{start, more}
 use borrow.Author.Needs.{needs}
 use Rattle.work.proofs.inner.copy_words.Statement.{statement}
 use Rattle.work.proofs.inner.copy_words.Tie as tie
 
 abbrev Inv-loop : tie.InvT-loop
-Inv-loop from to₀ k₀ to k = Written (λ i. getD from i 0) (length to₀) k to
+Inv-loop from to₀ k₀ to k = Written 0 (λ i. getD from i 0) (length to₀) k to
 
 abbrev μ-loop : tie.MeasureT-loop
 μ-loop from to₀ k₀ to k = length to₀ - k
 
 loop-holds : tie.Need-loop-holds Inv-loop μ-loop
-loop-holds c = start _ _ _ refl
+loop-holds c = start refl
 
 mul-to : tie.Need-mul-to Inv-loop μ-loop
 mul-to c = search needs
@@ -37,7 +38,7 @@ loop-less : tie.Need-loop-less Inv-loop μ-loop
 loop-less c = search needs
 
 loop-again : tie.Need-loop-again Inv-loop μ-loop
-loop-again c = more _ _ _ _ _ (c .before .before .loop .inv) (omega arith) refl
+loop-again c = more (c .before .before .loop .inv) (omega arith) refl
 
 same-length : tie.Need-same-length Inv-loop μ-loop
 same-length c = search needs

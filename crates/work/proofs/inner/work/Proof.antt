@@ -1,36 +1,36 @@
--- `work::inner::work`: by the kind of the op.
+-- `work::inner::work`: by the family of the op.
 use mathlib.Core.Path.{_≡_, sym, ap, _∙_}
 use mathlib.Core.List.{[], _∷_}
 use lib.ListN.{length}
 use Rattle.bit.specs.declared.LogicBit.{LogicBit}
 use Rattle.words.specs.Planes.{wordCount, lent, planesOf}
 use Rattle.value.specs.Checks.{vector}
-use Rattle.ops.specs.declared.Kind.{Kind}
-use Rattle.ops.specs.Ops.{kindRefused, kindHeader, kindBits, opBits}
+use Rattle.ops.specs.declared.Family.{Family}
+use Rattle.ops.specs.Ops.{familyRefused, familyHeader, familyBits, opBits}
 use Rattle.ops.proofs.Results.{arms-alike}
 use borrow.Author.Needs.{needs}
 use Rattle.work.proofs.inner.work.Statement.{statement}
 use Rattle.work.proofs.inner.work.Tie as tie
 
--- the planes lent for the result, by the kind that was told
-sized : (c : tie.After-kind-of) (k : Kind) → c .kind-of .result ≡ k → let a = c .before .before .before .before .before .before .before .before .before .args in
-    (length (a .ov .now) ≡ wordCount (kindHeader k (a .a) (a .b) (a .c) .width)) × (length (a .ou .now) ≡ wordCount (kindHeader k (a .a) (a .b) (a .c) .width))
+-- the planes lent for the result, by the family that was told
+sized : (c : tie.After-family-of) (k : Family) → c .family-of .result ≡ k → let a = c .before .before .before .before .before .before .before .before .before .args in
+    (length (a .ov .now) ≡ wordCount (familyHeader k (a .a) (a .b) (a .c) .width)) × (length (a .ou .now) ≡ wordCount (familyHeader k (a .a) (a .b) (a .c) .width))
 sized c k e =
     let s = c .before .before .before .before .before .before .before .before .before in
     let a = s .args in
-    let w = ap (λ (k : Kind). wordCount (kindHeader k (a .a) (a .b) (a .c) .width)) (sym (c .kind-of .ensures) ∙ e) in
+    let w = ap (λ (k : Family). wordCount (familyHeader k (a .a) (a .b) (a .c) .width)) (sym (c .family-of .ensures) ∙ e) in
     (s .pre .1 .1 .1 .1 .0 ∙ w, s .pre .1 .1 .1 .1 .1 ∙ w)
 
--- the bits of the result, by the kind that was told
-told : (c : tie.After-kind-of) (k : Kind) → c .kind-of .result ≡ k → let a = c .before .before .before .before .before .before .before .before .before .args in
+-- the bits of the result, by the family that was told
+told : (c : tie.After-family-of) (k : Family) → c .family-of .result ≡ k → let a = c .before .before .before .before .before .before .before .before .before .args in
     let x = vector (a .a) (lent (a .av .now) (a .au .now)) in let y = vector (a .b) (lent (a .bv .now) (a .bu .now)) in let z = vector (a .c) (lent (a .cv .now) (a .cu .now)) in
-    planesOf (kindBits k x y z (a .pos)) ≡ planesOf (opBits (a .op) x y z (a .pos))
+    planesOf (familyBits k x y z (a .pos)) ≡ planesOf (opBits (a .op) x y z (a .pos))
 told c k e =
     let a = c .before .before .before .before .before .before .before .before .before .args in
-    ap (λ (k : Kind). planesOf (kindBits k (vector (a .a) (lent (a .av .now) (a .au .now))) (vector (a .b) (lent (a .bv .now) (a .bu .now))) (vector (a .c) (lent (a .cv .now) (a .cu .now))) (a .pos))) (sym e ∙ c .kind-of .ensures)
+    ap (λ (k : Family). planesOf (familyBits k (vector (a .a) (lent (a .av .now) (a .au .now))) (vector (a .b) (lent (a .bv .now) (a .bu .now))) (vector (a .c) (lent (a .cv .now) (a .cu .now))) (a .pos))) (sym e ∙ c .family-of .ensures)
 
-kind-of-requires : tie.Need-kind-of-requires
-kind-of-requires c κs = search needs
+family-of-requires : tie.Need-family-of-requires
+family-of-requires c κs = search needs
 
 enum-known-j : tie.Need-enum-known-j
 enum-known-j c = search needs
@@ -77,7 +77,7 @@ select-requires c κs =
     let k = t .before .before in
     let s = k .before .before .before .before .before .before .before .before .before in
     let a = s .args in
-    let e = ap (λ (k : Kind). kindRefused k (a .b) (a .c)) (sym (t .enum-told2 .given .1) ∙ k .kind-of .ensures) in
+    let e = ap (λ (k : Family). familyRefused k (a .b) (a .c)) (sym (t .enum-told2 .given .1) ∙ k .family-of .ensures) in
     (s .pre .0, (s .pre .1 .0, (s .pre .1 .1 .0, (arms-alike (a .b) (a .c) (e ∙ s .pre .1 .1 .1 .0), sized k _ (t .enum-told2 .given .1)))))
 
 enum-told-3 : tie.Need-enum-told-3
@@ -155,7 +155,7 @@ pub work-spec : {M : Type 1} → statement M
 work-spec =
     tie.close
     (tie.spec
-    kind-of-requires
+    family-of-requires
     enum-known-j
     larger-requires
     join-planes-requires

@@ -34,8 +34,8 @@ returns c =
     let b = s .args .b in
     let e = c .to-code .ensures in
     ap₂ lent
-    (plane-done valueDigit (b ∷ []) _ _ _ (more _ _ _ (s .args .ov .now) _ (start _ _ _ (s .pre .0)) (omega arith) (ap (λ (n : ℕ). n % 2) e ∙ value-word b)) (omega arith) refl)
-    (plane-done unknownDigit (b ∷ []) _ _ _ (more _ _ _ (s .args .ou .now) _ (start _ _ _ (s .pre .1)) (omega arith) (ap (λ (n : ℕ). n / 2) e ∙ unknown-word b)) (omega arith) refl)
+    (plane-done valueDigit (b ∷ []) _ _ _ (more {out = s .args .ov .now} (start (s .pre .0)) (omega arith) (ap (λ (n : ℕ). n % 2) e ∙ value-word b)) (omega arith) refl)
+    (plane-done unknownDigit (b ∷ []) _ _ _ (more {out = s .args .ou .now} (start (s .pre .1)) (omega arith) (ap (λ (n : ℕ). n / 2) e ∙ unknown-word b)) (omega arith) refl)
 
 pub write-bit-spec : {M : Type 1} → statement M
 write-bit-spec =

@@ -1,4 +1,4 @@
--- `fold::inner::holds`: no word before k has the bit looked for, and `seen` is not 0 where one of them has an unknown bit.
+-- `fold::inner::contains`: no word before k has the bit looked for, and `seen` is not 0 where one of them has an unknown bit.
 use Prim.Native.Nat.{_+_, _-_, _≤_}
 use native.Mathlib.Omega.{arith}
 use mathlib.Core.Path.{_≡_, sym, ap, _∙_}
@@ -11,8 +11,8 @@ use lib.ListN.{length, getD}
 use Rattle.fold.proofs.Places.{WordPlanes}
 use Rattle.fold.proofs.Scan.{start}
 use Rattle.fold.proofs.Known.{Scanned, whole, cut, more, found, done, flipOf}
-use Rattle.fold.proofs.inner.holds.Statement.{statement}
-use Rattle.fold.proofs.inner.holds.Tie as tie
+use Rattle.fold.proofs.inner.contains.Statement.{statement}
+use Rattle.fold.proofs.inner.contains.Tie as tie
 
 abbrev Inv-loop : tie.InvT-loop
 Inv-loop width value unknown one flip last seen₀ k₀ seen k = (k ≤ last) × Scanned width value unknown one seen k
@@ -122,8 +122,8 @@ returns-4 c =
     let a = c .before .before .before .before .before .before .before .before .before .before .before .before .args in
     done (a .width) (a .value .now) (a .unknown .now) (a .one) _ _ (whole-plane (c .before)) (omega arith) true (eq-eqb _ _ (c .if4 .left))
 
-pub holds-spec : {M : Type 1} → statement M
-holds-spec =
+pub contains-spec : {M : Type 1} → statement M
+contains-spec =
     tie.close
     (tie.spec
     Inv-loop
