@@ -6,6 +6,7 @@ use mathlib.Core.Bool.{Bool, true, false, _&&_, _||_, cond}
 use Prim.Native.Nat.{ℕ, _<_}
 use borrow.Author.Tests.{ltb-true}
 use lib.Dec.{ltb}
+use Rattle.bit.proofs.Tests.{and-true}
 use Rattle.value.specs.Checks.{Vector}
 use Rattle.ops.specs.declared.Step.{Step}
 use Rattle.ops.specs.declared.Question.the-variants as question
@@ -14,7 +15,6 @@ use Rattle.ops.specs.declared.Family.the-variants as family
 use Rattle.ops.specs.Ops.{familyOperands, operands, familyRefused, familyHeader, familyBits}
 use Rattle.machine.specs.Machine.{names}
 use Rattle.cells.specs.Cells.{named}
-use Rattle.cells.proofs.Spans.{both}
 
 -- ---- what is not read
 
@@ -57,7 +57,7 @@ pub names-within : (n : ℕ) (s : Step) → names n s ≡ true → Within n s
 names-within n s h =
     let x = ltb (s .a) n in
     let y = ltb (operands (s .op)) 2 || ltb (s .b) n in
-    let p = both (x && y) (ltb (operands (s .op)) 3 || ltb (s .c) n) h in
-    let q = both x y (p .0) in
+    let p = and-true (x && y) (ltb (operands (s .op)) 3 || ltb (s .c) n) h in
+    let q = and-true x y (p .0) in
     let l = ltb-true (s .a) n (q .0) in
     record { a = l; b = either-within (ltb (operands (s .op)) 2) (s .a) (s .b) n l (q .1); c = either-within (ltb (operands (s .op)) 3) (s .a) (s .c) n l (p .1) }

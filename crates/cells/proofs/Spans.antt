@@ -1,5 +1,4 @@
 -- Cells whose spans lie one behind the other.
---     both                        two tests that hold together
 --     cell-fits, fits-cell        what is asked of one cell, as facts
 --     cells-within                the cells' words lie within the arenas
 --     cells-snoc                  one cell more
@@ -16,6 +15,7 @@ use borrow.Author.Tests.{eqb-true, leb-true, eq-eqb, le-leb}
 use lib.Dec.{eqb, leb}
 use lib.ListN.{length, getD, take, drop}
 use lib.Seq.{take-add, take-take, drop-at, length-take-le}
+use Rattle.bit.proofs.Tests.{and-true}
 use Rattle.refusal.specs.Outcome.{Answer}
 use Rattle.refusal.specs.Outcome.Answer.{given, refused}
 use Rattle.words.specs.Planes.{Planes, lent}
@@ -24,10 +24,6 @@ use Rattle.value.proofs.Checks.{Sound, vector-accepted}
 use Rattle.machine.specs.Machine.{wordsTaken}
 use Rattle.cells.specs.declared.Cell.{Cell}
 use Rattle.cells.specs.Cells.{cellWords, span, cellPlanes, cellVector, cellHeaders, accepts, cellAgrees, cellsAgree}
-
-pub both : (a b : Bool) → a && b ≡ true → (a ≡ true) × (b ≡ true)
-both true b h = (refl, h)
-both false b h = let z : _≡_ {A = ℕ} 0 1 = cc in absurd (omega arith)
 
 -- ---- one cell
 
@@ -56,7 +52,7 @@ fits-cell a k c f = simp (eq-eqb _ _ (f .begins), le-leb _ _ (f .within), f .sou
 cells-split : (a : Planes) (k : ℕ) (c : Cell) (cs : List Cell) → cellsAgree a k (c ∷ cs) ≡ true
     → Fits a k c × (cellsAgree a (k + cellWords c) cs ≡ true)
 unfolding cellsAgree
-cells-split a k c cs h = let p = both (cellAgrees a k c) (cellsAgree a (k + cellWords c) cs) h in (cell-fits a k c (p .0), p .1)
+cells-split a k c cs h = let p = and-true (cellAgrees a k c) (cellsAgree a (k + cellWords c) cs) h in (cell-fits a k c (p .0), p .1)
 
 pub cells-within : (a : Planes) (cs : List Cell) (k : ℕ) → k ≤ length (a .value) → cellsAgree a k cs ≡ true → k + wordsTaken (cellHeaders cs) ≤ length (a .value)
 unfolding wordsTaken

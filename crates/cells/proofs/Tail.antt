@@ -11,14 +11,14 @@ use lib.ListN.{length, take, drop, length-append, length-drop, drop-of-length-le
 use lib.Seq.{take-all, take-at, drop-at, drop-drop, length-take-le}
 use borrow.Rule.Slice.PartMut.{putMid}
 use Rattle.words.specs.Planes.{Planes, lent}
-use Rattle.cells.specs.Cells.{put, putPlanes}
+use Rattle.cells.specs.Cells.{putWords, putPlanes}
 
 module _ (k : ℕ) (arena : List ℕ) where
   rest : length (drop k arena) ≤ length arena - k
   rest = simp length-drop (omega arith)
 
   pub tail-back : (left p : List ℕ) → left ≡ p ++ drop (length p) (take (length arena - k) (drop k arena))
-      → putMid k (length arena - k) arena left ≡ put k p arena
+      → putMid k (length arena - k) arena left ≡ putWords k p arena
   tail-back left p e =
       let n = length arena - k in
       ap (λ (y : List ℕ). take k arena ++ (y ++ drop n (drop k arena))) e
@@ -31,15 +31,15 @@ module _ (k : ℕ) (p arena : List ℕ) (h : k + length p ≤ length arena) wher
   before : length (take k arena) ≡ k
   before = length-take-le k arena (omega arith)
 
-  pub put-take : take k (put k p arena) ≡ take k arena
+  pub put-take : take k (putWords k p arena) ≡ take k arena
   put-take = take-at (take k arena) (p ++ drop (k + length p) arena) k before
 
-  pub put-span : take (length p) (drop k (put k p arena)) ≡ p
+  pub put-span : take (length p) (drop k (putWords k p arena)) ≡ p
   put-span =
       ap (λ (x : List ℕ). take (length p) x) (drop-at (take k arena) (p ++ drop (k + length p) arena) k before)
       ∙ take-at p (drop (k + length p) arena) (length p) refl
 
-  pub put-length : length (put k p arena) ≡ length arena
+  pub put-length : length (putWords k p arena) ≡ length arena
   put-length =
       let b = length-drop (k + length p) arena in
       let c = length-append (take k arena) (p ++ drop (k + length p) arena) in

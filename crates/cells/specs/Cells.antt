@@ -53,11 +53,11 @@ cellsAgree a k (c ∷ cs) = cellAgrees a k c && cellsAgree a (k + cellWords c) c
 -- ---- words put into an arena
 
 -- the words of p stand from word k on; all other words stay
-abbrev pub put : ℕ → List ℕ → List ℕ → List ℕ
-put k p arena = take k arena ++ (p ++ drop (k + length p) arena)
+abbrev pub putWords : ℕ → List ℕ → List ℕ → List ℕ
+putWords k p arena = take k arena ++ (p ++ drop (k + length p) arena)
 
 abbrev pub putPlanes : ℕ → Planes → Planes → Planes
-putPlanes k p a = lent (put k (p .value) (a .value)) (put k (p .unknown) (a .unknown))
+putPlanes k p a = lent (putWords k (p .value) (a .value)) (putWords k (p .unknown) (a .unknown))
 
 -- ---- the cells that a step names
 

@@ -4,7 +4,7 @@ use fields::save;
 ghost use mathlib.Core.Path.{_≡_};
 ghost use Rattle.words.specs.Planes.{lent};
 ghost use Rattle.lines.specs.Buffer.{buffer};
-ghost use Rattle.steps.specs.Run.{runText, writtenBy};
+ghost use Rattle.steps.specs.Run.{runText, finalOf};
 ghost use Rattle.fields.specs.Fields.{fields, settled, crossed};
 ghost use Rattle.ffi_run.specs.Crossing.{crossedRun};
 
@@ -29,7 +29,7 @@ pub extern "C" fn vowherunga_run(
     fills: &mut [bool; 320],
     out: &mut [u8; 1052436],
 ) -> RunResult
-    ensures { λ r. ⌜ crossed (settled r (fields (now (starts .exit)) (now (widths .exit)) (now (signs .exit)) (now (fills .exit)))) ((lent (now («arena_value» .exit)) (now («arena_unknown» .exit))), (lent (now («scratch_value» .exit)) (now («scratch_unknown» .exit))), now (out .exit)) ≡ crossedRun (writtenBy (runText (lent (now («arena_value» .entry)) (now («arena_unknown» .entry))) (lent (now («scratch_value» .entry)) (now («scratch_unknown» .entry))) (now (text .entry))) (buffer (now (out .entry)) 0)) ⌝ }
+    ensures { λ r. ⌜ crossed (settled r (fields (now (starts .exit)) (now (widths .exit)) (now (signs .exit)) (now (fills .exit)))) ((lent (now («arena_value» .exit)) (now («arena_unknown» .exit))), (lent (now («scratch_value» .exit)) (now («scratch_unknown» .exit))), now (out .exit)) ≡ crossedRun (finalOf (runText (lent (now («arena_value» .entry)) (now («arena_unknown» .entry))) (lent (now («scratch_value» .entry)) (now («scratch_unknown» .entry))) (now (text .entry))) (buffer (now (out .entry)) 0)) ⌝ }
 {
     let r = steps::run(
         text,

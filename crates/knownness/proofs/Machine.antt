@@ -35,7 +35,7 @@ header-at cs j = List·getD-map (λ (c : Vector). c .header) cs j noVector
 abbrev pub more : List Vector → Step → List Vector
 more cs s = cs ++ (stepCell cs s ∷ [])
 
-headers-more : (cs : List Vector) (c : Vector) → headersOf (cs ++ (c ∷ [])) ≡ headersOf cs ++ (c .header ∷ [])
+pub headers-more : (cs : List Vector) (c : Vector) → headersOf (cs ++ (c ∷ [])) ≡ headersOf cs ++ (c .header ∷ [])
 headers-more [] c = refl
 headers-more (x ∷ xs) c = ap {B = List Header} (λ l. x .header ∷ l) (headers-more xs c)
 

@@ -3,7 +3,7 @@
 --     accepts         what the store accepts, headers accept
 --     inputs-plain    what headers accept, the store accepts and holds
 use mathlib.Core.Path.{_≡_, refl, sym, ap, _∙_, subst}
-use mathlib.Core.List.{List, [], _∷_, _++_, append-assoc, append-nil, map-append}
+use mathlib.Core.List.{List, [], _∷_, _++_, append-assoc, append-nil}
 use Prim.Native.Nat.{ℕ, suc}
 use native.Mathlib.Omega.{arith}
 use lib.ListN.{length}
@@ -14,7 +14,9 @@ use Rattle.value.specs.declared.Header.{Header}
 use Rattle.value.specs.Checks.{Vector, vector}
 use Rattle.machine.specs.Machine.{Room, headersOf, checkCount, checkRoom}
 use Rattle.knownness.specs.Knownness.{AllSound}
-use Rattle.store.specs.Store.{State, Holds, roomOf, appended, checkHeader, checkInput}
+use Rattle.knownness.proofs.Machine.{headers-more}
+use Rattle.store.specs.Store.{State, Holds, roomOf, appended, checkInput}
+use Rattle.store.proofs.Answers.{checkHeader}
 use Rattle.store.proofs.Held.{Added}
 use Rattle.store.proofs.Inputs.{input-check, input-holds}
 use Rattle.inputs.specs.Inputs.{addListed, afterInput, addInputs}
@@ -25,9 +27,6 @@ checkFirst r hs h = after (checkCount hs) (after (checkHeader h) (checkRoom r hs
 abbrev pub Accepts : Room → List Header → List Header → Type 0
 Accepts r hs [] = Unit {0}
 Accepts r hs (h ∷ is) = (checkFirst r hs h ≡ given tt) × Accepts r (hs ++ (h ∷ [])) is
-
-snoc : (cs : List Vector) (v : Vector) → headersOf (cs ++ (v ∷ [])) ≡ headersOf cs ++ (v .header ∷ [])
-snoc cs v = map-append _ cs (v ∷ [])
 
 module _ (scratch : Planes) (r : Room) where
   -- a state with the room r that holds cs, and one input
@@ -55,7 +54,7 @@ module _ (scratch : Planes) (r : Room) where
   inputs-plain (v ∷ A) s cs e h sound a =
       let w = accepted s cs v e h (sound 0) (a .0) in
       let l = left s cs v e h (sound 0) in
-      let t = inputs-plain A l (cs ++ (v ∷ [])) (w .room ∙ e) (w .holds) (λ j. sound (suc j)) (subst (λ hs. Accepts r hs (headersOf A)) (sym (snoc cs v)) (a .1)) in
+      let t = inputs-plain A l (cs ++ (v ∷ [])) (w .room ∙ e) (w .holds) (λ j. sound (suc j)) (subst (λ hs. Accepts r hs (headersOf A)) (sym (headers-more cs v)) (a .1)) in
       subst
       (λ x. (afterInput x l (addInputs l A) .answer ≡ given tt) × Holds (afterInput x l (addInputs l A) .left) (cs ++ (v ∷ A)) × (roomOf (afterInput x l (addInputs l A) .left .arenas) scratch ≡ r))
       (sym (w .answered))
@@ -72,7 +71,7 @@ module _ (scratch : Planes) (r : Room) where
           → (x ≡ given tt) × Accepts r (headersOf cs ++ (v .header ∷ [])) (headersOf A)
       go (given u) f ih =
           let w = accepted s cs v e h (sound 0) f in
-          (refl, subst (λ hs. Accepts r hs (headersOf A)) (snoc cs v) (ih (w .room ∙ e) (w .holds) (sym (ap (λ x. afterInput x (addListed s v .left) (addInputs (addListed s v .left) A) .answer) (w .answered)) ∙ a)))
+          (refl, subst (λ hs. Accepts r hs (headersOf A)) (headers-more cs v) (ih (w .room ∙ e) (w .holds) (sym (ap (λ x. afterInput x (addListed s v .left) (addInputs (addListed s v .left) A) .answer) (w .answered)) ∙ a)))
       go (refused k) f ih =
           let z : _≡_ {A = Answer Unit} (refused k) (given tt) =
           sym (ap (λ (o : Outcome ℕ State). afterInput (o .answer) (o .left) (addInputs (o .left) A) .answer) (answered s cs v e h (sound 0) (refused k) f)) ∙ a

@@ -14,19 +14,19 @@ use Rattle.output.specs.Output.{doneText}
 use Rattle.ops.specs.declared.Step.{Step}
 use Rattle.store.specs.Store.{state}
 use Rattle.store.specs.Step.{Memory, checkMemory, stepVector, stepped, addStep}
-use Rattle.turn.specs.Turn.{stepText}
-use Rattle.steps.specs.Run.{runSteps, written, writtenBy}
+use Rattle.turn.specs.Turn.{resultText}
+use Rattle.steps.specs.Run.{runSteps, final, finalOf}
 use Rattle.inputs.specs.Limits.{AllThin}
 use Rattle.steps.proofs.Turns.{steps-done, step-turn, step-last}
 use Rattle.inputs.proofs.Thin.{thin-put}
-use Rattle.turn.proofs.Narrow.{step-narrow}
+use Rattle.turn.proofs.Thin.{step-thin}
 use Rattle.inputs.proofs.Loops.{next-one, none-left}
 
 stepped-narrow : (m : Memory) (step : Step) → AllThin (m .state .store) → AllThin (addStep m step .left .state .store)
 stepped-narrow m step n = go (checkMemory m step)
   where
     go : (x : Answer Unit) → AllThin (orRefuse x m (outcome (given (m .state .store .count)) (stepped (stepVector (m .state) step) m)) .left .state .store)
-    go (given u) = thin-put (stepVector (m .state) step .header) (m .state .store) n (step-narrow (m .state) step n)
+    go (given u) = thin-put (stepVector (m .state) step .header) (m .state .store) n (step-thin (m .state) step n)
     go (refused k) = n
 
 -- the memory m and the place `at` of the buffer, with the steps from k on, leave what the memory `from` leaves with all n of them
@@ -34,31 +34,31 @@ pub record Walked (from : Memory) (out : List ℕ) (n : ℕ) (f : ℕ → Step) 
   pub narrow : AllThin (m .state .store)
   pub short : at ≤ k * 4111
   pub long : length d ≡ length out
-  pub left : writtenBy (runSteps from 0 (tabulate n f)) (buffer out 0) ≡ writtenBy (runSteps m k (drop k (tabulate n f))) (buffer d at)
+  pub left : finalOf (runSteps from 0 (tabulate n f)) (buffer out 0) ≡ finalOf (runSteps m k (drop k (tabulate n f))) (buffer d at)
 
 module _ (n : ℕ) (f : ℕ → Step) (from : Memory) (out : List ℕ) where
   pub walk-start : AllThin (from .state .store) → Walked from out n f from out 0 0
   walk-start t = record { narrow = t; short = omega arith; long = refl; left = refl }
 
   module _ (m : Memory) (d : List ℕ) (at k : ℕ) (h : Walked from out n f m d at k) where
-    pub walk-done : n ≤ k → writtenBy (runSteps from 0 (tabulate n f)) (buffer out 0) ≡ written m (put (buffer d at) (doneText k))
-    walk-done l = h .left ∙ ap (λ ss. writtenBy (runSteps m k ss) (buffer d at)) (none-left n f k l) ∙ steps-done m k d at
+    pub walk-done : n ≤ k → finalOf (runSteps from 0 (tabulate n f)) (buffer out 0) ≡ final m (put (buffer d at) (doneText k))
+    walk-done l = h .left ∙ ap (λ ss. finalOf (runSteps m k ss) (buffer d at)) (none-left n f k l) ∙ steps-done m k d at
 
     module _ (l : k < n) where
       abbrev rest : List Step
       rest = drop (k + 1) (tabulate n f)
 
-      onto-step : writtenBy (runSteps from 0 (tabulate n f)) (buffer out 0) ≡ writtenBy (runSteps m k (f k ∷ rest)) (buffer d at)
-      onto-step = h .left ∙ ap (λ ss. writtenBy (runSteps m k ss) (buffer d at)) (next-one n f k l)
+      onto-step : finalOf (runSteps from 0 (tabulate n f)) (buffer out 0) ≡ finalOf (runSteps m k (f k ∷ rest)) (buffer d at)
+      onto-step = h .left ∙ ap (λ ss. finalOf (runSteps m k ss) (buffer d at)) (next-one n f k l)
 
       module _ (a : Answer ℕ) (t : Memory) (e : List ℕ) (j : ℕ) (called : outcome a t ≡ addStep m (f k))
-          (shown : buffer e j ≡ put (buffer d at) (stepText a k (stepVector (m .state) (f k) .bits))) where
+          (shown : buffer e j ≡ put (buffer d at) (resultText a k (stepVector (m .state) (f k) .bits))) where
         pub walk-more : (c : ℕ) → a ≡ given c → at ≤ length d → j ≤ at + 4111 → length e ≡ length d → Walked from out n f t e j (k + 1)
         walk-more c g inside short same =
             let left : addStep m (f k) .left ≡ t = sym (ap (λ (o : Outcome ℕ Memory). o .left) called) in
             let answer : addStep m (f k) .answer ≡ given c = sym (ap (λ (o : Outcome ℕ Memory). o .answer) called) ∙ g in
-            let text : put (buffer d at) (stepText (given c) k (stepVector (m .state) (f k) .bits)) ≡ buffer e j =
-            sym (shown ∙ ap (λ x. put (buffer d at) (stepText x k (stepVector (m .state) (f k) .bits))) g)
+            let text : put (buffer d at) (resultText (given c) k (stepVector (m .state) (f k) .bits)) ≡ buffer e j =
+            sym (shown ∙ ap (λ x. put (buffer d at) (resultText x k (stepVector (m .state) (f k) .bits))) g)
             in
             record {
               narrow = subst (λ (z : Memory). AllThin (z .state .store)) left (stepped-narrow m (f k) (h .narrow));
@@ -67,14 +67,14 @@ module _ (n : ℕ) (f : ℕ → Step) (from : Memory) (out : List ℕ) where
               left =
                   onto-step
                   ∙ step-turn m k d at (f k) rest c answer inside
-                  ∙ ap₂ (λ (z : Memory) (b : Buffer). writtenBy (runSteps z (suc k) rest) b) left text
-                  ∙ ap (λ (i : ℕ). writtenBy (runSteps t i rest) (buffer e j)) (sym (add-one k));
+                  ∙ ap₂ (λ (z : Memory) (b : Buffer). finalOf (runSteps z (suc k) rest) b) left text
+                  ∙ ap (λ (i : ℕ). finalOf (runSteps t i rest) (buffer e j)) (sym (add-one k));
             }
 
-        pub walk-last : (r : ℕ) → a ≡ refused r → writtenBy (runSteps from 0 (tabulate n f)) (buffer out 0) ≡ written t (buffer e j)
+        pub walk-last : (r : ℕ) → a ≡ refused r → finalOf (runSteps from 0 (tabulate n f)) (buffer out 0) ≡ final t (buffer e j)
         walk-last r g =
             let left : addStep m (f k) .left ≡ t = sym (ap (λ (o : Outcome ℕ Memory). o .left) called) in
             let answer : addStep m (f k) .answer ≡ refused r = sym (ap (λ (o : Outcome ℕ Memory). o .answer) called) ∙ g in
             onto-step
             ∙ step-last m k d at (f k) rest r answer
-            ∙ ap₂ written left (sym (shown ∙ ap (λ x. put (buffer d at) (stepText x k (stepVector (m .state) (f k) .bits))) g))
+            ∙ ap₂ final left (sym (shown ∙ ap (λ x. put (buffer d at) (resultText x k (stepVector (m .state) (f k) .bits))) g))

@@ -11,26 +11,26 @@ use Rattle.lines.proofs.Put.{put-put}
 use Rattle.output.specs.Output.{cellText, doneText, refusedText}
 use Rattle.ops.specs.declared.Step.{Step}
 use Rattle.store.specs.Step.{Memory, memory, addStep, stepVector}
-use Rattle.steps.specs.Run.{afterStep, runSteps, written, writtenBy}
+use Rattle.steps.specs.Run.{afterStep, runSteps, final, finalOf}
 
 module _ (m : Memory) (k : ℕ) (d : List ℕ) (i : ℕ) where
-  pub steps-done : writtenBy (runSteps m k []) (buffer d i) ≡ written m (put (buffer d i) (doneText k))
+  pub steps-done : finalOf (runSteps m k []) (buffer d i) ≡ final m (put (buffer d i) (doneText k))
   unfolding runSteps
   steps-done = refl
 
   module _ (s : Step) (ss : List Step) where
     pub step-turn : (n : ℕ) → addStep m s .answer ≡ given n → i ≤ length d
-        → writtenBy (runSteps m k (s ∷ ss)) (buffer d i)
-        ≡ writtenBy (runSteps (addStep m s .left) (suc k) ss) (put (buffer d i) (cellText n (stepVector (m .state) s .bits)))
+        → finalOf (runSteps m k (s ∷ ss)) (buffer d i)
+        ≡ finalOf (runSteps (addStep m s .left) (suc k) ss) (put (buffer d i) (cellText n (stepVector (m .state) s .bits)))
     unfolding runSteps
     step-turn n e h =
         let rest = runSteps (addStep m s .left) (suc k) ss in
         let bits = stepVector (m .state) s .bits in
-        ap (λ a. writtenBy (afterStep a (addStep m s .left) k bits rest) (buffer d i)) e
-        ∙ ap (written (rest .memory)) (sym (put-put d i (cellText n bits) (rest .text) h))
+        ap (λ a. finalOf (afterStep a (addStep m s .left) k bits rest) (buffer d i)) e
+        ∙ ap (final (rest .memory)) (sym (put-put d i (cellText n bits) (rest .text) h))
 
     pub step-last : (n : ℕ) → addStep m s .answer ≡ refused n
-        → writtenBy (runSteps m k (s ∷ ss)) (buffer d i) ≡ written (addStep m s .left) (put (buffer d i) (refusedText n (suc k)))
+        → finalOf (runSteps m k (s ∷ ss)) (buffer d i) ≡ final (addStep m s .left) (put (buffer d i) (refusedText n (suc k)))
     unfolding runSteps
     step-last n e =
-        ap (λ a. writtenBy (afterStep a (addStep m s .left) k (stepVector (m .state) s .bits) (runSteps (addStep m s .left) (suc k) ss)) (buffer d i)) e
+        ap (λ a. finalOf (afterStep a (addStep m s .left) k (stepVector (m .state) s .bits) (runSteps (addStep m s .left) (suc k) ss)) (buffer d i)) e

@@ -16,8 +16,8 @@ use Rattle.knownness.specs.Knownness.{Keeps, Refines, Cellwise, AllSound, NoFil
 use Rattle.inputs.specs.Inputs.{addInputs}
 use Rattle.steps.specs.Run.{Ran, runList, emptied}
 
-abbrev pub list : List Vector → List Step → StepList
-list inputs ss = record { inputs = inputs; steps = ss }
+abbrev pub stepList : List Vector → List Step → StepList
+stepList inputs ss = record { inputs = inputs; steps = ss }
 
 -- what is lent to a run, with any contents
 pub record Lent : Type 0 where
@@ -26,7 +26,7 @@ pub record Lent : Type 0 where
 
 -- the run of a list from an empty store
 abbrev pub runOn : Lent → List Vector → List Step → Ran
-runOn m A ss = runList (emptied (m .arenas) (m .scratch)) (list A ss)
+runOn m A ss = runList (emptied (m .arenas) (m .scratch)) (stepList A ss)
 
 -- two lent planes of the same lengths as two others
 abbrev pub SameLengths : Planes → Planes → Type 0

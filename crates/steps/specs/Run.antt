@@ -12,7 +12,7 @@ use Rattle.machine.specs.Machine.{Ending, AtEnd, RefusedAt}
 use Rattle.store.specs.Store.{state, emptyStore}
 use Rattle.store.specs.Step.{Memory, memory, addStep, stepVector}
 use Rattle.inputs.specs.Inputs.{addInputs}
-use Rattle.turn.specs.Turn.{stepText}
+use Rattle.turn.specs.Turn.{resultText}
 use Rattle.steplist.specs.Listing.{StepList, whole}
 
 -- the memory that a run leaves, the text that it writes, and how it ends
@@ -41,7 +41,7 @@ refusedFirst m n = ended m 0 (RefusedAt n 0)
 
 -- a refused step is the run's last; the lines of the others come before those of the steps behind them
 abbrev pub afterStep : Answer ℕ → Memory → ℕ → List LogicBit → Ran → Ran
-afterStep (given n) left k bits rest = ran (rest .memory) (stepText (given n) k bits ++ rest .text) (rest .ending)
+afterStep (given n) left k bits rest = ran (rest .memory) (resultText (given n) k bits ++ rest .text) (rest .ending)
 afterStep (refused n) left k bits rest = ended left k (RefusedAt n (suc k))
 
 -- the steps of a list, behind k steps that were run
@@ -78,12 +78,12 @@ runText arenas scratch t = runWhole (emptied arenas scratch) (whole t)
 -- ---- `run`
 
 -- all that `run` leaves: the memory, and its text at the front of the buffer, whose further bytes stay
-pub record Written : Type 0 where
+pub record Final : Type 0 where
   pub memory : Memory
   pub out : Buffer
 
-abbrev pub written : Memory → Buffer → Written
-written m b = record { memory = m; out = b }
+abbrev pub final : Memory → Buffer → Final
+final m b = record { memory = m; out = b }
 
-abbrev pub writtenBy : Ran → Buffer → Written
-writtenBy r b = written (r .memory) (put b (r .text))
+abbrev pub finalOf : Ran → Buffer → Final
+finalOf r b = final (r .memory) (put b (r .text))

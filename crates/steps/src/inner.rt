@@ -1,5 +1,5 @@
 // The steps of a list, and a list as a whole. These ask their caller for a list that was read from the text and for room in the buffer.
-use crate::Ran;
+use crate::RunAnswer;
 use inputs::inner::add_inputs;
 use output::inner::put_done;
 use refusal::Verdict;
@@ -18,7 +18,7 @@ ghost use Rattle.store.specs.Store.{state};
 ghost use Rattle.store.specs.Step.{memory};
 ghost use Rattle.steplist.specs.Answers.{stepsIn, listIn};
 ghost use Rattle.inputs.specs.Limits.{AllThin, Readable};
-ghost use Rattle.steps.specs.Run.{runSteps, runList, emptied, written, writtenBy};
+ghost use Rattle.steps.specs.Run.{runSteps, runList, emptied, final, finalOf};
 
 // Runs the steps of the list on the store, up to the first that is refused, and writes their lines.
 fn run_steps(
@@ -29,10 +29,10 @@ fn run_steps(
     scratch_value: &mut [u64],
     scratch_unknown: &mut [u64],
     out: &mut [u8],
-) -> Ran
+) -> RunAnswer
     requires { ⌜ (list .«step_count» ≤ 256) × (1052436 ≤ length (now out)) ⌝ }
     requires { ⌜ AllThin from ⌝ }
-    ensures { λ r. ⌜ written (memory (state (r .store) (lent (now («arena_value» .exit)) (now («arena_unknown» .exit)))) (lent (now («scratch_value» .exit)) (now («scratch_unknown» .exit)))) (buffer (now (out .exit)) (r .length)) ≡ writtenBy (runSteps (memory (state from (lent (now («arena_value» .entry)) (now («arena_unknown» .entry)))) (lent (now («scratch_value» .entry)) (now («scratch_unknown» .entry)))) 0 (stepsIn (list .«step_count») (list .steps))) (buffer (now (out .entry)) 0) ⌝ }
+    ensures { λ r. ⌜ final (memory (state (r .store) (lent (now («arena_value» .exit)) (now («arena_unknown» .exit)))) (lent (now («scratch_value» .exit)) (now («scratch_unknown» .exit)))) (buffer (now (out .exit)) (r .length)) ≡ finalOf (runSteps (memory (state from (lent (now («arena_value» .entry)) (now («arena_unknown» .entry)))) (lent (now («scratch_value» .entry)) (now («scratch_unknown» .entry)))) 0 (stepsIn (list .«step_count») (list .steps))) (buffer (now (out .entry)) 0) ⌝ }
 {
     let n = list.step_count;
     let mut s = from;
@@ -57,7 +57,7 @@ fn run_steps(
         let answer = stored.answer;
         match answer {
             CellAnswer::Refused(_) => {
-                return Ran {
+                return RunAnswer {
                     store: s,
                     length: at,
                 };
@@ -67,7 +67,7 @@ fn run_steps(
         k += 1;
     }
     let e = put_done(out, at, n as u32);
-    Ran {
+    RunAnswer {
         store: s,
         length: e,
     }
@@ -82,10 +82,10 @@ pub fn run_list(
     scratch_value: &mut [u64],
     scratch_unknown: &mut [u64],
     out: &mut [u8],
-) -> Ran
+) -> RunAnswer
     requires { ⌜ Readable (now text) list ⌝ }
     requires { ⌜ 1052436 ≤ length (now out) ⌝ }
-    ensures { λ r. ⌜ written (memory (state (r .store) (lent (now («arena_value» .exit)) (now («arena_unknown» .exit)))) (lent (now («scratch_value» .exit)) (now («scratch_unknown» .exit)))) (buffer (now (out .exit)) (r .length)) ≡ writtenBy (runList (emptied (lent (now («arena_value» .entry)) (now («arena_unknown» .entry))) (lent (now («scratch_value» .entry)) (now («scratch_unknown» .entry)))) (listIn (now (text .entry)) list)) (buffer (now (out .entry)) 0) ⌝ }
+    ensures { λ r. ⌜ final (memory (state (r .store) (lent (now («arena_value» .exit)) (now («arena_unknown» .exit)))) (lent (now («scratch_value» .exit)) (now («scratch_unknown» .exit)))) (buffer (now (out .exit)) (r .length)) ≡ finalOf (runList (emptied (lent (now («arena_value» .entry)) (now («arena_unknown» .entry))) (lent (now («scratch_value» .entry)) (now («scratch_unknown» .entry)))) (listIn (now (text .entry)) list)) (buffer (now (out .entry)) 0) ⌝ }
 {
     let fed = add_inputs(list, text, arena_value, arena_unknown);
     let s = fed.store;
@@ -93,7 +93,7 @@ pub fn run_list(
     match verdict {
         Verdict::Refused(r) => {
             let n = put_refusal(r, 0, out, 0);
-            Ran {
+            RunAnswer {
                 store: s,
                 length: n,
             }

@@ -8,12 +8,12 @@ ghost use Rattle.words.specs.Planes.{lent};
 ghost use Rattle.lines.specs.Buffer.{buffer};
 ghost use Rattle.store.specs.Store.{state};
 ghost use Rattle.store.specs.Step.{memory};
-ghost use Rattle.steps.specs.Run.{runText, written, writtenBy};
+ghost use Rattle.steps.specs.Run.{runText, final, finalOf};
 
 pub mod inner;
 
 // The store that a run leaves, and how many bytes it wrote at the front of the buffer.
-pub struct Ran {
+pub struct RunAnswer {
     pub store: Store,
     pub length: usize,
 }
@@ -26,8 +26,8 @@ pub fn run(
     scratch_value: &mut [u64],
     scratch_unknown: &mut [u64],
     out: &mut [u8; 1052436],
-) -> Ran
-    ensures { λ r. ⌜ written (memory (state (r .store) (lent (now («arena_value» .exit)) (now («arena_unknown» .exit)))) (lent (now («scratch_value» .exit)) (now («scratch_unknown» .exit)))) (buffer (now (out .exit)) (r .length)) ≡ writtenBy (runText (lent (now («arena_value» .entry)) (now («arena_unknown» .entry))) (lent (now («scratch_value» .entry)) (now («scratch_unknown» .entry))) (now (text .entry))) (buffer (now (out .entry)) 0) ⌝ }
+) -> RunAnswer
+    ensures { λ r. ⌜ final (memory (state (r .store) (lent (now («arena_value» .exit)) (now («arena_unknown» .exit)))) (lent (now («scratch_value» .exit)) (now («scratch_unknown» .exit)))) (buffer (now (out .exit)) (r .length)) ≡ finalOf (runText (lent (now («arena_value» .entry)) (now («arena_unknown» .entry))) (lent (now («scratch_value» .entry)) (now («scratch_unknown» .entry))) (now (text .entry))) (buffer (now (out .entry)) 0) ⌝ }
 {
     let a = read_list(text);
     let list = a.list;
@@ -35,7 +35,7 @@ pub fn run(
     match verdict {
         Verdict::Refused(r) => {
             let n = put_refusal(r, 0, out, 0);
-            Ran {
+            RunAnswer {
                 store: Store::new(),
                 length: n,
             }

@@ -11,13 +11,14 @@ use borrow.Author.Tests.{eqb-true, leb-true, eq-eqb, le-leb}
 use lib.Dec.{eqb, leb}
 use lib.ListN.{length, getD, length-map}
 use lib.Seq.{length-take-le}
+use Rattle.bit.proofs.Tests.{and-true}
 use Rattle.refusal.specs.Outcome.{Answer}
 use Rattle.refusal.specs.Outcome.Answer.{given, refused}
 use Rattle.cells.specs.declared.Cell.{Cell}
 use Rattle.store.specs.declared.Store.{Store}
 use Rattle.cells.specs.Cells.{cellsAgree}
 use Rattle.store.specs.Store.{State, filled, storeHeaders, nextWord, agrees, checkStore}
-use Rattle.cells.proofs.Spans.{both, Fits, cells-within, cell-there}
+use Rattle.cells.proofs.Spans.{Fits, cells-within, cell-there}
 use Rattle.store.proofs.Answers.{not-given}
 
 pub record Agreed (s : State) : Type 0 where
@@ -30,8 +31,8 @@ unfolding agrees
 state-agrees s h =
     let x = leb (s .store .count) 320 in
     let y = eqb (length (s .arenas .value)) (length (s .arenas .unknown)) in
-    let p = both (x && y) (cellsAgree (s .arenas) 0 (filled (s .store))) h in
-    let q = both x y (p .0) in
+    let p = and-true (x && y) (cellsAgree (s .arenas) 0 (filled (s .store))) h in
+    let q = and-true x y (p .0) in
     record { few = leb-true _ _ (q .0); level = eqb-true _ _ (q .1); cells = p .1 }
 
 pub agrees-state : (s : State) → Agreed s → agrees s ≡ true

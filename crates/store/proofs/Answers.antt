@@ -1,7 +1,7 @@
 -- What an answer behind a check tells of the check, and when a check accepts.
 --     not-given                        a refusal is no result
 --     answer-given, answer-refused     a result: the check accepted; a refusal: the check's own
---     planes-header                    the check of a vector whose planes are in order goes by the header alone
+--     checkHeader, planes-header       the check of a vector whose planes are in order goes by the header alone
 --     vector-accepts                   a vector in order is accepted
 use mathlib.Core.Path.{_≡_, refl, sym, ap, _∙_}
 use mathlib.Core.Bool.{Bool, true, false, _&&_, cond}
@@ -17,7 +17,6 @@ use Rattle.planes.specs.Entries.{maxWidth, checkLengths, checkPlanes}
 use Rattle.value.specs.declared.Header.{Header}
 use Rattle.value.specs.Checks.{checkVector}
 use Rattle.value.proofs.Checks.{Sound}
-use Rattle.store.specs.Store.{checkHeader}
 
 pub not-given : {A : Type 0} (n : ℕ) (a : A) → _≡_ {A = Answer A} (refused n) (given a) → ⊥
 not-given n a h = let z : _≡_ {A = ℕ} 0 1 = cc in omega arith
@@ -29,6 +28,10 @@ answer-given (refused k) m n h = absurd (not-given k n h)
 pub answer-refused : (x : Answer Unit) (m n : ℕ) → after x (given m) ≡ refused n → x ≡ refused n
 answer-refused (given t) m n h = absurd (not-given n m (sym h))
 answer-refused (refused k) m n h = let e : k ≡ n = cc in ap refused e
+
+-- what 1 to 4 say of an input whose planes are those of as many bits as its header says: 1 and 4, by the header alone
+abbrev pub checkHeader : Header → Answer Unit
+checkHeader h = cond (ltb maxWidth (h .width)) (refused 1) (cond (h .«is_fill» && eqb (h .width) 0) (refused 4) (given tt))
 
 is-true : (b : Bool) → T b → b ≡ true
 is-true true t = refl

@@ -18,9 +18,9 @@ use Rattle.value.specs.declared.Header.{Header}
 use Rattle.value.specs.Checks.{Vector, vector, checkVector}
 use Rattle.value.proofs.Checks.{Sound, vector-accepted}
 use Rattle.machine.specs.Machine.{headersOf, checkCount, checkRoom}
-use Rattle.store.specs.Store.{State, storeHeaders, nextWord, agrees, checkStore, roomOf, appended, checkInput, addInput, checkHeader, Holds}
+use Rattle.store.specs.Store.{State, storeHeaders, nextWord, agrees, checkStore, roomOf, appended, checkInput, addInput, Holds}
 use Rattle.store.specs.Step.{memory}
-use Rattle.store.proofs.Answers.{not-given, planes-header}
+use Rattle.store.proofs.Answers.{not-given, checkHeader, planes-header}
 use Rattle.store.proofs.Agreed.{headers-count, state-agrees, next-within}
 use Rattle.store.proofs.Held.{held-count, holds-headers, Storable, storable-vector, append-holds, value-length, Added}
 

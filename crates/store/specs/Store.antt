@@ -4,13 +4,12 @@ use mathlib.Core.Path.{_≡_}
 use mathlib.Core.Bool.{Bool, true, _&&_, cond}
 use mathlib.Core.List.{List, [], map}
 use Prim.Native.Nat.{ℕ, _+_, min}
-use lib.Dec.{eqb, leb, ltb}
+use lib.Dec.{eqb, leb}
 use lib.ListN.{length, take, set, replicate}
 use Rattle.refusal.specs.Refusals.{refusalNumber}
 use Rattle.refusal.specs.Outcome.{Answer, Outcome, outcome, after, orRefuse}
 use Rattle.refusal.specs.Outcome.Answer.{given, refused}
 use Rattle.words.specs.Planes.{Planes, lent, planesOf}
-use Rattle.planes.specs.Entries.{maxWidth}
 use Rattle.value.specs.declared.Header.{Header}
 use Rattle.value.specs.Checks.{Vector, vector, checkVector}
 use Rattle.value.specs.Constructors.{plain}
@@ -105,10 +104,6 @@ checkInput s h p =
 -- the input is the next cell, and the answer is that cell's number
 abbrev pub addInput : State → Header → Planes → Outcome ℕ State
 addInput s h p = orRefuse (checkInput s h p) s (outcome (given (s .store .count)) (appended (vector h p) s))
-
--- what 1 to 4 say of an input whose planes are those of as many bits as its header says: 1 and 4, by the header alone
-abbrev pub checkHeader : Header → Answer Unit
-checkHeader h = cond (ltb maxWidth (h .width)) (refused 1) (cond (h .«is_fill» && eqb (h .width) 0) (refused 4) (given tt))
 
 -- ---- what a state holds
 

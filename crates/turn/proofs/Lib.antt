@@ -1,2 +1,2 @@
-pub mod Narrow
+pub mod Thin
 pub mod Results

@@ -20,7 +20,7 @@ use Rattle.store.proofs.Steps.{step-admitted, step-storable, worked-front}
 use Rattle.inputs.specs.Limits.{AllThin}
 use Rattle.turn.specs.Turn.{Front, frontBits}
 use Rattle.inputs.proofs.Thin.{thin-put}
-use Rattle.turn.proofs.Narrow.{step-narrow}
+use Rattle.turn.proofs.Thin.{step-thin}
 
 pub number-small : (r : Refusal) → refusalNumber r < 100
 number-small TooWide = omega arith
@@ -63,7 +63,7 @@ step-shown m n step c places narrow e =
     subst (λ (o : Memory). Shown m o step c) (sym (d .2))
     (subst (Shown m (stepped v m) step) (sym (d .1)) (record {
       few = a .few;
-      narrow = thin-put (v .header) (m .state .store) narrow (step-narrow (m .state) step narrow);
-      front = subst (λ (h : Header). Front h (stepped v m .scratch)) (sym k) (record { thin = step-narrow (m .state) step narrow; value-long = f .value-long; unknown-long = f .unknown-long });
+      narrow = thin-put (v .header) (m .state .store) narrow (step-thin (m .state) step narrow);
+      front = subst (λ (h : Header). Front h (stepped v m .scratch)) (sym k) (record { thin = step-thin (m .state) step narrow; value-long = f .value-long; unknown-long = f .unknown-long });
       bits = ap (λ (h : Header). frontBits (h .width) (stepped v m .scratch)) k ∙ ap (λ (r : Vector). r .bits) (f .holds);
     }))

@@ -14,9 +14,9 @@ use Rattle.output.specs.Output.{cellText, refusedText}
 use Rattle.inputs.specs.Limits.{Thin}
 
 -- the lines of a step, behind k steps that were run
-abbrev pub stepText : Answer ℕ → ℕ → List LogicBit → List ℕ
-stepText (given n) k bits = cellText n bits
-stepText (refused n) k bits = refusedText n (suc k)
+abbrev pub resultText : Answer ℕ → ℕ → List LogicBit → List ℕ
+resultText (given n) k bits = cellText n bits
+resultText (refused n) k bits = refusedText n (suc k)
 
 -- planes at whose front a vector with the header h stands, and its bits
 pub record Front (h : Header) (p : Planes) : Type 0 where

@@ -18,7 +18,7 @@ ghost use Rattle.output.specs.Output.{cellText, refusedText};
 ghost use Rattle.store.specs.Store.{state, noCell, cellAnswer};
 ghost use Rattle.store.specs.Step.{memory, stepVector, addStep};
 ghost use Rattle.inputs.specs.Limits.{AllThin};
-ghost use Rattle.turn.specs.Turn.{stepText};
+ghost use Rattle.turn.specs.Turn.{resultText};
 ghost use Rattle.turn.specs.Turn.{Front, frontBits};
 
 // The two lines of a refusal.
@@ -73,7 +73,7 @@ pub fn run_step(
     requires { ⌜ AllThin s ⌝ }
     requires { ⌜ (k < 256) × (at + 4111 ≤ length (now out)) ⌝ }
     ensures { λ r. ⌜ outcome (cellAnswer (r .stored .answer)) (memory (state (r .stored .store) (lent (now («arena_value» .exit)) (now («arena_unknown» .exit)))) (lent (now («scratch_value» .exit)) (now («scratch_unknown» .exit)))) ≡ addStep (memory (state s (lent (now («arena_value» .entry)) (now («arena_unknown» .entry)))) (lent (now («scratch_value» .entry)) (now («scratch_unknown» .entry)))) step ⌝ }
-    ensures { λ r. ⌜ buffer (now (out .exit)) (r .at) ≡ put (buffer (now (out .entry)) at) (stepText (cellAnswer (r .stored .answer)) k (stepVector (state s (lent (now («arena_value» .entry)) (now («arena_unknown» .entry)))) step .bits)) ⌝ }
+    ensures { λ r. ⌜ buffer (now (out .exit)) (r .at) ≡ put (buffer (now (out .entry)) at) (resultText (cellAnswer (r .stored .answer)) k (stepVector (state s (lent (now («arena_value» .entry)) (now («arena_unknown» .entry)))) step .bits)) ⌝ }
     ensures { λ r. ⌜ r .at ≤ at + 4111 ⌝ }
 {
     let t = s.add_step(

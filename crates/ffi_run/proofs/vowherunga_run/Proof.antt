@@ -2,7 +2,7 @@
 use borrow.Author.Needs.{needs}
 use Rattle.words.specs.Planes.{lent}
 use Rattle.lines.specs.Buffer.{buffer}
-use Rattle.steps.specs.Run.{runText, writtenBy}
+use Rattle.steps.specs.Run.{runText, finalOf}
 use Rattle.fields.specs.Fields.{fields}
 use Rattle.ffi_run.proofs.Crossing.{run-crosses}
 use Rattle.ffi_run.proofs.vowherunga_run.Statement.{statement}
@@ -34,7 +34,7 @@ returns c =
     let g = i .before .before .before .before .before .before .before .before .before .before .before .args in
     let t = c .save .last .1 in
     run-crosses (r .store) (lent (d .0) (d .1 .0)) (lent (d .1 .1 .0) (d .1 .1 .1 .0)) (d .1 .1 .1 .1 .0) (r .length) (fields (t .0) (t .1 .0) (t .1 .1 .0) (t .1 .1 .1 .0))
-    (writtenBy (runText (lent (g .arena-value .now) (g .arena-unknown .now)) (lent (g .scratch-value .now) (g .scratch-unknown .now)) (g .text .now)) (buffer (g .out .now) 0))
+    (finalOf (runText (lent (g .arena-value .now) (g .arena-unknown .now)) (lent (g .scratch-value .now) (g .scratch-unknown .now)) (g .text .now)) (buffer (g .out .now) 0))
     (c .save .ensures) (i .run .ensures)
 
 pub vowherunga-run-spec : {M : Type 1} → statement M

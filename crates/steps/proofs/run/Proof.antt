@@ -13,7 +13,7 @@ use Rattle.store.specs.Step.{memory}
 use Rattle.steplist.specs.Listing.{StepList, whole}
 use Rattle.steplist.specs.Answers.{listIn}
 use Rattle.steplist.proofs.Listed.{listed-counts, listed-places}
-use Rattle.steps.specs.Run.{runWhole, emptied, Written, written, writtenBy}
+use Rattle.steps.specs.Run.{runWhole, emptied, Final, final, finalOf}
 use borrow.Author.Needs.{needs}
 use Rattle.steps.proofs.run.Statement.{statement}
 use Rattle.steps.proofs.run.Tie as tie
@@ -27,10 +27,10 @@ module _ (k : tie.After-read-list) where
   text = start .args .text .now
 
   -- what the run leaves by what the text says
-  abbrev rest : Answer StepList → Written
+  abbrev rest : Answer StepList → Final
   rest x =
       let a = start .args in
-      writtenBy (runWhole (emptied (lent (a .arena-value .now) (a .arena-unknown .now)) (lent (a .scratch-value .now) (a .scratch-unknown .now))) x) (buffer (a .out .now) 0)
+      finalOf (runWhole (emptied (lent (a .arena-value .now) (a .arena-unknown .now)) (lent (a .scratch-value .now) (a .scratch-unknown .now))) x) (buffer (a .out .now) 0)
 
   told : (v : Verdict) → k .read-list .result .verdict ≡ v → after (verdict v) (given (listIn text (k .read-list .result .list))) ≡ whole text
   told v e = sym (ap (λ x. after (verdict x) (given (listIn text (k .read-list .result .list)))) e) ∙ k .read-list .ensures
@@ -66,7 +66,7 @@ returns c =
     let k = p .before .before .before .before .before .before in
     let a = k .before .before .before .before .before .before .args in
     let r = p .before .before .before .verdict .given in
-    ap₂ (λ s o. written (memory (state s (lent (a .arena-value .now) (a .arena-unknown .now))) (lent (a .scratch-value .now) (a .scratch-unknown .now))) o) (c .new .ensures) (p .put-refusal .ensures)
+    ap₂ (λ s o. final (memory (state s (lent (a .arena-value .now) (a .arena-unknown .now))) (lent (a .scratch-value .now) (a .scratch-unknown .now))) o) (c .new .ensures) (p .put-refusal .ensures)
     ∙ ap (rest k) (told k (Refused (r .0 .0)) (r .1))
 
 same-length : tie.Need-same-length

@@ -9,7 +9,7 @@ use Rattle.store.specs.Store.{State, state, emptyStore}
 use Rattle.store.specs.Step.{memory}
 use Rattle.steplist.specs.Answers.{listIn}
 use Rattle.inputs.specs.Inputs.{addInputs}
-use Rattle.steps.specs.Run.{afterInputs, Written, written, writtenBy}
+use Rattle.steps.specs.Run.{afterInputs, Final, final, finalOf}
 use borrow.Author.Needs.{needs}
 use Rattle.steps.proofs.inner.run_list.Statement.{statement}
 use Rattle.steps.proofs.inner.run_list.Tie as tie
@@ -23,10 +23,10 @@ module _ (k : tie.After-add-inputs) where
   left = state (k .add-inputs .result .store) (lent (k .add-inputs .last .1 .1 .0) (k .add-inputs .last .1 .1 .1 .0))
 
   -- what the run leaves by the outcome of the inputs
-  abbrev rest : Outcome Unit State → Written
+  abbrev rest : Outcome Unit State → Final
   rest o =
       let a = start .args in
-      writtenBy (afterInputs (o .answer) (memory (o .left) (lent (a .scratch-value .now) (a .scratch-unknown .now))) (listIn (a .text .now) (a .list) .steps)) (buffer (a .out .now) 0)
+      finalOf (afterInputs (o .answer) (memory (o .left) (lent (a .scratch-value .now) (a .scratch-unknown .now))) (listIn (a .text .now) (a .list) .steps)) (buffer (a .out .now) 0)
 
   called : (v : Verdict) → k .add-inputs .result .verdict ≡ v
       → outcome (verdict v) left ≡ addInputs (state emptyStore (lent (start .args .arena-value .now) (start .args .arena-unknown .now))) (listIn (start .args .text .now) (start .args .list) .inputs)
@@ -61,7 +61,7 @@ returns c =
     let p = c .before .before in
     let k = p .before .before .before .before .before .before .before .before .before .before in
     let r = p .before .before .before .verdict .given in
-    ap (written (memory (left k) (lent (start k .args .scratch-value .now) (start k .args .scratch-unknown .now)))) (p .put-refusal .ensures)
+    ap (final (memory (left k) (lent (start k .args .scratch-value .now) (start k .args .scratch-unknown .now)))) (p .put-refusal .ensures)
     ∙ ap (rest k) (called k (Refused (r .0 .0)) (r .1))
 
 same-length-4 : tie.Need-same-length-4

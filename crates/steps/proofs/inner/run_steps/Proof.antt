@@ -15,8 +15,8 @@ use Rattle.output.specs.Output.{doneText}
 use Rattle.store.specs.Step.{Memory, memory, stepVector, addStep}
 use Rattle.steplist.specs.declared.StepList.{StepList}
 use Rattle.ops.specs.Ops.{noStep}
-use Rattle.turn.specs.Turn.{stepText}
-use Rattle.steps.specs.Run.{written}
+use Rattle.turn.specs.Turn.{resultText}
+use Rattle.steps.specs.Run.{final}
 use Rattle.steps.proofs.Loops.{Walked, walk-start, walk-more, walk-last, walk-done}
 use borrow.Author.Needs.{needs}
 use Rattle.steps.proofs.inner.run_steps.Statement.{statement}
@@ -71,7 +71,7 @@ module _ (a : tie.After-run-step Inv-loop μ-loop) where
   called = a .run-step .ensures .0
 
   shown : buffer (a .run-step .last .1 .1 .1 .1 .1 .1 .1 .0) (a .run-step .result .at)
-      ≡ put (buffer (l .loop .out) (l .loop .at)) (stepText (cellAnswer (a .run-step .result .stored .answer)) place (stepVector (m .state) (step (st .args .t1) place) .bits))
+      ≡ put (buffer (l .loop .out) (l .loop .at)) (resultText (cellAnswer (a .run-step .result .stored .answer)) place (stepVector (m .state) (step (st .args .t1) place) .bits))
   shown = a .run-step .ensures .1 .0
 
   inside : l .loop .k < st .args .t1 .«step_count»
@@ -194,7 +194,7 @@ returns-2 c =
     let m = held (l .loop .s) (l .loop .arena-value) (l .loop .arena-unknown) (l .loop .scratch-value) (l .loop .scratch-unknown) in
     let e : l .loop .k ≡ g .t1 .«step_count» = omega (arith, i .within, c .before .before .before .before .loop-test .left) in
     sym (walk-done (g .t1 .«step_count») (step (g .t1)) (entered s) (g .out .now) m (l .loop .out) (l .loop .at) (l .loop .k) (i .walked) (c .before .before .before .before .loop-test .left)
-    ∙ ap (λ k. written m (put (buffer (l .loop .out) (l .loop .at)) (doneText k))) e ∙ ap (written m) (sym (d .put-done .ensures)))
+    ∙ ap (λ k. final m (put (buffer (l .loop .out) (l .loop .at)) (doneText k))) e ∙ ap (final m) (sym (d .put-done .ensures)))
 
 pub run-steps-spec : {M : Type 1} → statement M
 run-steps-spec =

@@ -13,7 +13,7 @@ use Rattle.output.specs.Output.{cellText, refusedText}
 use Rattle.output.proofs.Room.{refused-room}
 use Rattle.store.specs.Store.{state, cellAnswer}
 use Rattle.store.specs.Step.{Memory, memory, stepVector}
-use Rattle.turn.specs.Turn.{stepText}
+use Rattle.turn.specs.Turn.{resultText}
 use Rattle.turn.proofs.Results.{number-small, Shown, step-shown}
 use borrow.Author.Needs.{needs}
 use Rattle.turn.proofs.inner.run_step.Statement.{statement}
@@ -89,7 +89,7 @@ returns c =
     in (
       w .add-step .ensures,
       (
-        e ∙ sym (ap (λ x. put o (stepText (cellAnswer x) (a .k) (stepVector (entered s .state) (a .step) .bits))) (q .answer .given .1)),
+        e ∙ sym (ap (λ x. put o (resultText (cellAnswer x) (a .k) (stepVector (entered s .state) (a .step) .bits))) (q .answer .given .1)),
         omega (arith, place-of (a .out .now) (a .at) (refusedText n (suc (a .k))) e, refused-room n (suc (a .k)) (number-small (q .answer .given .0 .0)) (omega (arith, s .pre .1 .0))),
       ),
     )
@@ -122,7 +122,7 @@ returns-2 c =
       (
         p .put-result .ensures .0
             ∙ ap (λ bs. put o (cellText (q .answer2 .given .0 .0) bs)) (shown k .bits)
-            ∙ sym (ap (λ x. put o (stepText (cellAnswer x) (a .k) (stepVector (entered s .state) (a .step) .bits))) (q .answer2 .given .1)),
+            ∙ sym (ap (λ x. put o (resultText (cellAnswer x) (a .k) (stepVector (entered s .state) (a .step) .bits))) (q .answer2 .given .1)),
         p .put-result .ensures .1,
       ),
     )

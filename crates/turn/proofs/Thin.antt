@@ -30,8 +30,8 @@ family-thin (family.Answer q) a b c p q′ r = omega arith
 family-thin family.Select a b c p q r = q
 family-thin family.Insert a b c p q r = p
 
-pub step-narrow : (s : State) (step : Step) → AllThin (s .store) → Thin (stepVector s step .header)
-step-narrow s step n =
+pub step-thin : (s : State) (step : Step) → AllThin (s .store) → Thin (stepVector s step .header)
+step-thin s step n =
     let t : (j : ℕ) → Thin (cellAt (cellsOf s) j .header) = cells-thin (s .arenas) (s .store .cells) (s .store .count) n in
     family-thin (familyOf (step .op)) (cellAt (cellsOf s) (step .a) .header) (cellAt (cellsOf s) (step .b) .header) (cellAt (cellsOf s) (step .c) .header)
     (t (step .a)) (t (step .b)) (t (step .c))
