@@ -19,7 +19,13 @@ impl LogicBit {
     }
 
     /// The bit of a code; a number above 3 is taken modulo 4.
+    #[inline]
     pub fn from_code(code: u8) -> LogicBit {
-        LogicBit::ALL[usize::from(code % 4)]
+        match code % 4 {
+            0 => LogicBit::Zero,
+            1 => LogicBit::One,
+            2 => LogicBit::X,
+            _ => LogicBit::Z,
+        }
     }
 }

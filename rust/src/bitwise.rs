@@ -36,6 +36,7 @@ fn of_two(
 
 /// A bit is 0 if either is 0, 1 if both are 1, else x. The shorter operand is extended by 0, even if signed; the result is unsigned. A fill is
 /// first stretched to the larger width.
+#[inline]
 pub fn bitwise_and(
     a: Header,
     av: &[u64],
@@ -50,6 +51,7 @@ pub fn bitwise_and(
 }
 
 /// A bit is 1 if either is 1, 0 if both are 0, else x. Extension, fills and sign as in [`bitwise_and`].
+#[inline]
 pub fn bitwise_or(
     a: Header,
     av: &[u64],
@@ -64,6 +66,7 @@ pub fn bitwise_or(
 }
 
 /// A bit is x if either is unknown, else 1 if they differ, else 0. Extension, fills and sign as in [`bitwise_and`].
+#[inline]
 pub fn bitwise_xor(
     a: Header,
     av: &[u64],
@@ -79,6 +82,7 @@ pub fn bitwise_xor(
 
 /// A bit stands if both are known and equal, else it is x. The shorter operand is extended by 0, a fill too. The result is signed if both
 /// operands are and it has at most 64 bits.
+#[inline]
 pub fn merge_unknown(
     a: Header,
     av: &[u64],
@@ -93,6 +97,7 @@ pub fn merge_unknown(
 }
 
 /// 0 gives 1, 1 gives 0, x and z give x. Width and sign are kept; the result is no fill.
+#[inline]
 pub fn bitwise_not(a: Header, av: &[u64], au: &[u64], ov: &mut [u64], ou: &mut [u64]) -> Result<Header, Refusal> {
     header(unsafe {
         raw::vowherunga_bitwise_not(
@@ -110,6 +115,7 @@ pub fn bitwise_not(a: Header, av: &[u64], au: &[u64], ov: &mut [u64], ou: &mut [
 }
 
 /// Puts the lowest bits of a word in from `pos` on: the least of n, 64 and the width minus `pos` of them. Whether a bit changed.
+#[inline]
 pub fn splice_bits64(a: Header, value: &mut [u64], unknown: &mut [u64], pos: usize, bits: Word, n: usize) -> Result<bool, Refusal> {
     let r = unsafe {
         raw::vowherunga_splice_bits64(

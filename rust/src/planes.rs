@@ -14,6 +14,7 @@ pub struct Word {
 }
 
 /// How many words a plane of `width` bits has: the larger of 1 and width / 64, rounded up.
+#[inline]
 pub fn word_count(width: u32) -> usize {
     width.max(1).div_ceil(64) as usize
 }
@@ -22,6 +23,7 @@ pub fn word_count(width: u32) -> usize {
 // writing overlaps no other.
 
 /// Bit i; 0 at or above the width.
+#[inline]
 pub fn get(width: u32, value: &[u64], unknown: &[u64], i: usize) -> Result<LogicBit, Refusal> {
     let r = unsafe { raw::vowherunga_get(width, value.as_ptr(), value.len(), unknown.as_ptr(), unknown.len(), i) };
     Refusal::of_call(r.refusal)?;
@@ -29,12 +31,14 @@ pub fn get(width: u32, value: &[u64], unknown: &[u64], i: usize) -> Result<Logic
 }
 
 /// Makes bit i the given bit; at or above the width nothing changes.
+#[inline]
 pub fn set(width: u32, value: &mut [u64], unknown: &mut [u64], i: usize, bit: LogicBit) -> Result<(), Refusal> {
     let code = bit.to_code();
     Refusal::of_call(unsafe { raw::vowherunga_set(width, value.as_mut_ptr(), value.len(), unknown.as_mut_ptr(), unknown.len(), i, code) })
 }
 
 /// Puts the lowest bits of a word in from `pos` on: the least of n, 64 and the width minus `pos` of them.
+#[inline]
 pub fn splice64(width: u32, value: &mut [u64], unknown: &mut [u64], pos: usize, bits: Word, n: usize) -> Result<(), Refusal> {
     Refusal::of_call(unsafe {
         raw::vowherunga_splice64(
@@ -52,6 +56,7 @@ pub fn splice64(width: u32, value: &mut [u64], unknown: &mut [u64], pos: usize, 
 }
 
 /// The n bits from `pos` on, at most 64; 0 beyond the width.
+#[inline]
 pub fn extract64(width: u32, value: &[u64], unknown: &[u64], pos: usize, n: usize) -> Result<Word, Refusal> {
     let r = unsafe { raw::vowherunga_extract64(width, value.as_ptr(), value.len(), unknown.as_ptr(), unknown.len(), pos, n) };
     Refusal::of_call(r.refusal)?;
@@ -62,6 +67,7 @@ pub fn extract64(width: u32, value: &[u64], unknown: &[u64], pos: usize, n: usiz
 }
 
 /// Clears the bits at or above the width; at width 0 none.
+#[inline]
 pub fn mask_top(width: u32, value: &mut [u64], unknown: &mut [u64]) -> Result<(), Refusal> {
     Refusal::of_call(unsafe { raw::vowherunga_mask_top(width, value.as_mut_ptr(), value.len(), unknown.as_mut_ptr(), unknown.len()) })
 }

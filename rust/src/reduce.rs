@@ -34,6 +34,7 @@ impl From<Truth> for LogicBit {
 }
 
 /// The bit of a call that answers one.
+#[inline]
 pub(crate) fn bit(r: raw::BitResult) -> Result<LogicBit, Refusal> {
     Refusal::of_call(r.refusal)?;
     Ok(LogicBit::from_code(r.bit))
@@ -47,21 +48,25 @@ fn reduction(call: raw::BitOfOne, a: Header, value: &[u64], unknown: &[u64]) -> 
 }
 
 /// 0 on any known 0, else x on any unknown bit, else 1.
+#[inline]
 pub fn reduce_and(a: Header, value: &[u64], unknown: &[u64]) -> Result<LogicBit, Refusal> {
     reduction(raw::vowherunga_reduce_and, a, value, unknown)
 }
 
 /// 1 on any known 1, else x on any unknown bit, else 0.
+#[inline]
 pub fn reduce_or(a: Header, value: &[u64], unknown: &[u64]) -> Result<LogicBit, Refusal> {
     reduction(raw::vowherunga_reduce_or, a, value, unknown)
 }
 
 /// x on any unknown bit, else whether the number of ones is odd.
+#[inline]
 pub fn reduce_xor(a: Header, value: &[u64], unknown: &[u64]) -> Result<LogicBit, Refusal> {
     reduction(raw::vowherunga_reduce_xor, a, value, unknown)
 }
 
 /// True on a known 1, else unknown on an unknown bit, else false. A real is true if it is not equal to 0, so NaN is true.
+#[inline]
 pub fn is_nonzero(a: Operand, value: &[u64], unknown: &[u64]) -> Result<Truth, Refusal> {
     let (is_real, header, real) = a.parts();
     let answer =
@@ -99,11 +104,13 @@ pub(crate) fn of_operands(
 }
 
 /// 0 if either is false, 1 if both are true, else x.
+#[inline]
 pub fn logic_and(a: Operand, av: &[u64], au: &[u64], b: Operand, bv: &[u64], bu: &[u64]) -> Result<LogicBit, Refusal> {
     of_operands(raw::vowherunga_logic_and, (a, av, au), (b, bv, bu))
 }
 
 /// 1 if either is true, 0 if both are false, else x.
+#[inline]
 pub fn logic_or(a: Operand, av: &[u64], au: &[u64], b: Operand, bv: &[u64], bu: &[u64]) -> Result<LogicBit, Refusal> {
     of_operands(raw::vowherunga_logic_or, (a, av, au), (b, bv, bu))
 }

@@ -37,6 +37,7 @@ impl Operand {
 }
 
 /// The header of a call that wrote a vector.
+#[inline]
 pub(crate) fn header(r: raw::HeaderResult) -> Result<Header, Refusal> {
     Refusal::of_call(r.refusal)?;
     Ok(Header {
@@ -52,21 +53,25 @@ pub(crate) fn header(r: raw::HeaderResult) -> Result<Header, Refusal> {
 /// Whether header and planes are a vector, as every operator asks of an operand: refused by 1 (width above
 /// [`MAX_WIDTH`](crate::MAX_WIDTH)), 2 (a plane that is not exactly its word count), 3 (a bit set at or above the width) or 4 (a fill of
 /// width 0), in this order.
+#[inline]
 pub fn check_vector(h: Header, value: &[u64], unknown: &[u64]) -> Result<(), Refusal> {
     Refusal::of_call(unsafe { raw::vowherunga_check_vector(h, value.as_ptr(), value.len(), unknown.as_ptr(), unknown.len()) })
 }
 
 /// All x.
+#[inline]
 pub fn new(width: u32, value: &mut [u64], unknown: &mut [u64]) -> Result<Header, Refusal> {
     header(unsafe { raw::vowherunga_new(width, value.as_mut_ptr(), value.len(), unknown.as_mut_ptr(), unknown.len()) })
 }
 
 /// All 0.
+#[inline]
 pub fn zero(width: u32, value: &mut [u64], unknown: &mut [u64]) -> Result<Header, Refusal> {
     header(unsafe { raw::vowherunga_zero(width, value.as_mut_ptr(), value.len(), unknown.as_mut_ptr(), unknown.len()) })
 }
 
 /// The bits of a number.
+#[inline]
 pub fn from_u64(val: u64, width: u32, value: &mut [u64], unknown: &mut [u64]) -> Result<Header, Refusal> {
     header(unsafe { raw::vowherunga_from_u64(val, width, value.as_mut_ptr(), value.len(), unknown.as_mut_ptr(), unknown.len()) })
 }

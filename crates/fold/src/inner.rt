@@ -1,7 +1,6 @@
 // The reductions and truth by words. These ask their caller for planes that were checked.
 use crate::Truth;
 use bit::LogicBit;
-use words::inner::kept;
 use words::inner::ones;
 ghost use mathlib.Core.Path.{_≡_};
 ghost use Rattle.words.specs.Planes.{fromPlanes, Plane};
@@ -27,7 +26,7 @@ fn contains(width: u32, value: &[u64], unknown: &[u64], one: bool) -> Truth
         k += 1;
     }
     let u = unknown[last];
-    let n = kept(width, last);
+    let n = width as usize - last * 64;
     let m = ones(n);
     if ((value[last] ^ flip) & !u & m) != 0 {
         return Truth::True;

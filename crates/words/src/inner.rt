@@ -131,7 +131,7 @@ pub fn is_clear(plane: &[u64], width: u32) -> bool
     ensures { λ r. ⌜ r ≡ clearAbove width (now (plane .entry)) ⌝ }
 {
     let last = plane.len() - 1;
-    let n = kept(width, last);
+    let n = width as usize - last * 64;
     let m = ones(n);
     (plane[last] & !m) == 0
 }
@@ -145,7 +145,7 @@ pub fn mask_plane(plane: &mut [u64], width: u32)
         return;
     }
     let last = plane.len() - 1;
-    let n = kept(width, last);
+    let n = width as usize - last * 64;
     let m = ones(n);
     plane[last] = plane[last] & m;
 }

@@ -1,5 +1,5 @@
 -- `fold::inner::contains`: no word before k has the bit looked for, and `seen` is not 0 where one of them has an unknown bit.
-use Prim.Native.Nat.{_+_, _-_, _≤_}
+use Prim.Native.Nat.{_+_, _-_, _*_, _≤_, min}
 use native.Mathlib.Omega.{arith}
 use mathlib.Core.Path.{_≡_, sym, ap, _∙_}
 use mathlib.Core.Bool.{true, false}
@@ -32,22 +32,26 @@ module _ (c : tie.Joined1 Inv-loop μ-loop) where
     unknown-words = λ k. c .before .shared-slice-known2 .given k .fits;
   }
 
+  -- how many bits the last word has
+  in-top : let a = c .before .before .before .args in let last = length (a .value .now) - 1 in a .width - last * 64 ≡ min 64 (a .width - last * 64)
+  in-top = omega (arith, c .before .before .before .pre .0 .count)
+
 -- all words but the last one are scanned
-top : (c : tie.After-ones Inv-loop μ-loop) → let l = c .before .before .before .before in let a = l .before .before .before .before .args in
+top : (c : tie.After-ones Inv-loop μ-loop) → let l = c .before .before .before in let a = l .before .before .before .before .args in
     Scanned (a .width) (a .value .now) (a .unknown .now) (a .one) (l .loop .seen) (length (a .value .now) - 1)
 top c =
-    let l = c .before .before .before .before in
+    let l = c .before .before .before in
     let e : l .loop .k ≡ length (l .before .before .before .before .args .value .now) - 1 = omega arith in
     rw e at (l .loop .inv .1)
 
 -- the last one too
-whole-plane : (c : tie.Else3 Inv-loop μ-loop) → let l = c .before .before .before .before .before .before .before in let a = l .before .before .before .before .args in
+whole-plane : (c : tie.Else3 Inv-loop μ-loop) → let l = c .before .before .before .before .before .before in let a = l .before .before .before .before .args in
     Scanned (a .width) (a .value .now) (a .unknown .now) (a .one) (bitOr (l .loop .seen) (getD (a .unknown .now) (length (a .value .now) - 1) 0)) (length (a .value .now) - 1 + 1)
 whole-plane c =
     let t = c .before .before .before in
-    let g = t .before .before .before .before .before in
+    let g = t .before .before .before .before in
     let one = g .before .before .before .args .one in
-    more _ _ _ one (planes g) _ _ _ (top t) (cut _ _ _ one (planes g) _ (flip-is g) _ _ _ (t .before .kept .ensures) (t .ones .ensures)) (c .if3 .left)
+    more _ _ _ one (planes g) _ _ _ (top t) (cut _ _ _ one (planes g) _ (flip-is g) _ _ _ (in-top g) (t .ones .ensures)) (c .if3 .left)
 
 sub-last : tie.Need-sub-last Inv-loop μ-loop
 sub-last c = search needs
@@ -93,8 +97,11 @@ mul-u-2 c = search needs
 shared-slice-read-u-2 : tie.Need-shared-slice-read-u-2 Inv-loop μ-loop
 shared-slice-read-u-2 c = search needs
 
-kept-requires : tie.Need-kept-requires Inv-loop μ-loop
-kept-requires c κs = search needs
+mul-n : tie.Need-mul-n Inv-loop μ-loop
+mul-n c = search needs
+
+sub-n : tie.Need-sub-n Inv-loop μ-loop
+sub-n c = search needs
 
 ones-requires : tie.Need-ones-requires Inv-loop μ-loop
 ones-requires c κs = search needs
@@ -108,18 +115,18 @@ shared-slice-read-if3 c = search needs
 returns-2 : tie.Need-returns-2 Inv-loop μ-loop
 returns-2 c =
     let t = c .before .before .before in
-    let g = t .before .before .before .before .before in
+    let g = t .before .before .before .before in
     let one = g .before .before .before .args .one in
-    found _ _ _ one (planes g) _ _ _ (top t) (cut _ _ _ one (planes g) _ (flip-is g) _ _ _ (t .before .kept .ensures) (t .ones .ensures)) (c .if3 .taken)
+    found _ _ _ one (planes g) _ _ _ (top t) (cut _ _ _ one (planes g) _ (flip-is g) _ _ _ (in-top g) (t .ones .ensures)) (c .if3 .taken)
 
 returns-3 : tie.Need-returns-3 Inv-loop μ-loop
 returns-3 c =
-    let a = c .before .before .before .before .before .before .before .before .before .before .before .before .args in
+    let a = c .before .before .before .before .before .before .before .before .before .before .before .args in
     done (a .width) (a .value .now) (a .unknown .now) (a .one) _ _ (whole-plane (c .before)) (omega arith) false (ne-eqb _ _ (c .if4 .taken))
 
 returns-4 : tie.Need-returns-4 Inv-loop μ-loop
 returns-4 c =
-    let a = c .before .before .before .before .before .before .before .before .before .before .before .before .args in
+    let a = c .before .before .before .before .before .before .before .before .before .before .before .args in
     done (a .width) (a .value .now) (a .unknown .now) (a .one) _ _ (whole-plane (c .before)) (omega arith) true (eq-eqb _ _ (c .if4 .left))
 
 pub contains-spec : {M : Type 1} → statement M
@@ -140,7 +147,8 @@ contains-spec =
     loop-again
     mul-u-2
     shared-slice-read-u-2
-    kept-requires
+    mul-n
+    sub-n
     ones-requires
     mul-if3
     shared-slice-read-if3

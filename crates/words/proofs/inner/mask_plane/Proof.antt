@@ -1,4 +1,5 @@
 -- `words::inner::mask_plane`: masking the last word masks the plane.
+use native.Mathlib.Omega.{arith}
 use Rattle.words.proofs.Top.{top-masked}
 use borrow.Author.Needs.{needs}
 use Rattle.words.proofs.inner.mask_plane.Statement.{statement}
@@ -10,8 +11,11 @@ returns c = search needs
 sub-last : tie.Need-sub-last
 sub-last c = search needs
 
-kept-requires : tie.Need-kept-requires
-kept-requires c κs = search needs
+mul-n : tie.Need-mul-n
+mul-n c = search needs
+
+sub-n : tie.Need-sub-n
+sub-n c = search needs
 
 ones-requires : tie.Need-ones-requires
 ones-requires c κs = search needs
@@ -33,10 +37,10 @@ same-length c = search needs
 
 returns-2 : tie.Need-returns-2
 returns-2 c =
-    let s = c .before .before .before .before .before in
+    let s = c .before .before .before .before in
     let a = s .args in
     rw (c .before .ones .ensures)
-    (top-masked (a .plane .now) (a .width) (λ k. c .slice-known2 .given k .fits) (c .before .before .kept .result) (s .pre) (c .before .before .before .if1 .left) (c .before .before .kept .ensures))
+    (top-masked (a .plane .now) (a .width) (λ k. c .slice-known2 .given k .fits) _ (s .pre) (c .before .before .if1 .left) (omega (arith, s .pre)))
 
 pub mask-plane-spec : {M : Type 1} → statement M
 mask-plane-spec =
@@ -44,7 +48,8 @@ mask-plane-spec =
     (tie.spec
     returns
     sub-last
-    kept-requires
+    mul-n
+    sub-n
     ones-requires
     mul-plane
     slice-read-plane
