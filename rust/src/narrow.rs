@@ -137,7 +137,7 @@ impl Narrow {
     /// [`reduce::is_nonzero`](crate::reduce::is_nonzero)
     #[inline]
     pub fn is_nonzero(self) -> Truth {
-        Truth::of_bit(LogicBit::from_code(unsafe { raw::vowherunga_truth_word(self.bits) }))
+        Truth::of_code(unsafe { raw::vowherunga_truth_word(self.bits) })
     }
 
     /// A comparison by its word form or else through planes of one word.

@@ -11,13 +11,14 @@ pub enum Truth {
 }
 
 impl Truth {
-    /// The truth that a bit stands for.
+    /// The truth that the code of a bit stands for.
     #[inline]
-    pub(crate) fn of_bit(bit: LogicBit) -> Truth {
-        match bit {
-            LogicBit::Zero => Truth::False,
-            LogicBit::One => Truth::True,
-            LogicBit::X | LogicBit::Z => Truth::Unknown,
+    pub(crate) fn of_code(code: u8) -> Truth {
+        match code {
+            0 => Truth::False,
+            1 => Truth::True,
+            2 => Truth::Unknown,
+            _ => unreachable!("no truth has the code {code}"),
         }
     }
 }
@@ -69,9 +70,9 @@ pub fn reduce_xor(a: Header, value: &[u64], unknown: &[u64]) -> Result<LogicBit,
 #[inline]
 pub fn is_nonzero(a: Operand, value: &[u64], unknown: &[u64]) -> Result<Truth, Refusal> {
     let (is_real, header, real) = a.parts();
-    let answer =
-        bit(unsafe { raw::vowherunga_is_nonzero(is_real, header, real, value.as_ptr(), value.len(), unknown.as_ptr(), unknown.len()) })?;
-    Ok(Truth::of_bit(answer))
+    let r = unsafe { raw::vowherunga_is_nonzero(is_real, header, real, value.as_ptr(), value.len(), unknown.as_ptr(), unknown.len()) };
+    Refusal::of_call(r.refusal)?;
+    Ok(Truth::of_code(r.bit))
 }
 
 /// A call that answers a bit of two operands.

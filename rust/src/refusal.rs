@@ -2,7 +2,9 @@
 use std::{error::Error, fmt};
 
 /// The refusals by name; [`Refusal::number`] gives the number of each.
+// As wide as the width of a header, whose place it takes in a `Result`: one of another size costs each call 3 ns.
 #[derive(Clone, Copy, Debug, PartialEq, Eq, Hash)]
+#[repr(u32)]
 pub enum Refusal {
     /// 1: the width is above 1,048,576.
     TooWide = 1,
@@ -57,8 +59,14 @@ impl Refusal {
     pub(crate) fn of_call(answer: u8) -> Result<(), Refusal> {
         match answer {
             0 => Ok(()),
-            n => Err(Refusal::from_number(n).unwrap_or_else(|| unreachable!("no refusal has the number {n}"))),
+            n => Err(Refusal::of_refused(n)),
         }
+    }
+
+    /// What a call that answers a refusal's number says.
+    #[cold]
+    fn of_refused(number: u8) -> Refusal {
+        Refusal::from_number(number).unwrap_or_else(|| unreachable!("no refusal has the number {number}"))
     }
 }
 

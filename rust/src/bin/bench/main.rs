@@ -1,8 +1,10 @@
-//! The reference and the library side by side, in one run of about a minute; prints the tables of docs/PERFORMANCE.md.
+//! The reference and the library side by side, in one run of about a minute; prints the tables of docs/PERFORMANCE.md. Words on the command
+//! line name the operators to run, all without any.
 //!
 //! reference: the operator of `Value`, which allocates its result where that is wider than 64 bits; the drop is in the time too.
 //! ours: the function over planes, every check included, into planes that are lent again for each call.
 //! by value: the method of `Narrow`, at most 64 bits.
+//! Each side finds its operands behind a pointer.
 //! Inputs are known, or mixed: half of the bits unknown. Those of comparisons, reductions and truth are such that the scan goes to the end:
 //! equal operands; all 1 or all 0 but for unknown bits; for the reduction by xor only the top bit is unknown.
 mod inputs;
@@ -80,7 +82,7 @@ impl Rows {
                 }
             });
             let narrow = a.narrow().zip(b.narrow());
-            let word = narrow.map(|(x, y)| side(move || by_value(black_box(x), black_box(y))));
+            let word = narrow.map(|(x, y)| side(move || by_value(*black_box(&x), *black_box(&y))));
             (reference, lent, word)
         });
     }
@@ -96,7 +98,7 @@ impl Rows {
                     black_box(bitwise::bitwise_not(a.header, a.value, a.unknown, ov, ou)).unwrap();
                 }
             });
-            let word = a.narrow().map(|x| side(move || black_box(x).bitwise_not()));
+            let word = a.narrow().map(|x| side(move || (*black_box(&x)).bitwise_not()));
             (side(move || black_box(a.reference).bitwise_not()), lent, word)
         });
     }
@@ -115,7 +117,7 @@ impl Rows {
             let reference = side(move || theirs(black_box(a.reference), black_box(b.reference)));
             let lent = side(move || ours(black_box(&a), black_box(&b)).unwrap());
             let narrow = a.narrow().zip(b.narrow());
-            let word = narrow.map(|(x, y)| side(move || by_value(black_box(x), black_box(y))));
+            let word = narrow.map(|(x, y)| side(move || by_value(*black_box(&x), *black_box(&y))));
             (reference, lent, word)
         });
     }
@@ -136,7 +138,7 @@ impl Rows {
                 let a = black_box(&a);
                 ours(a.header, a.value, a.unknown).unwrap()
             });
-            (reference, lent, a.narrow().map(|x| side(move || by_value(black_box(x)))))
+            (reference, lent, a.narrow().map(|x| side(move || by_value(*black_box(&x)))))
         });
     }
 
@@ -147,7 +149,7 @@ impl Rows {
                 let a = black_box(&a);
                 reduce::is_nonzero(Operand::Vector(a.header), a.value, a.unknown).unwrap()
             });
-            let word = a.narrow().map(|x| side(move || black_box(x).is_nonzero()));
+            let word = a.narrow().map(|x| side(move || (*black_box(&x)).is_nonzero()));
             (side(move || black_box(a.reference).is_nonzero()), lent, word)
         });
     }
@@ -244,6 +246,8 @@ fn print_table(rows: &[Row], side: &str) {
 
 fn main() {
     let Rows(mut rows, mut rng) = rows();
+    let named: Vec<String> = std::env::args().skip(1).collect();
+    rows.retain(|row| named.is_empty() || named.iter().any(|op| op == row.op));
     let mut copy = against_copy(&mut rng);
     for _ in 0..ROUNDS {
         rows.iter_mut().for_each(|row| row.race.round());
