@@ -2,7 +2,7 @@
 use std::{error::Error, fmt};
 
 /// The refusals by name; [`Refusal::number`] gives the number of each.
-// As wide as the width of a header, whose place it takes in a `Result`: one of another size costs each call 3 ns.
+// As wide as the width of a header, whose place it takes in a `Result`: one of another size costs each call 2 to 5 ns.
 #[derive(Clone, Copy, Debug, PartialEq, Eq, Hash)]
 #[repr(u32)]
 pub enum Refusal {
