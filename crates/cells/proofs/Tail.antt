@@ -47,10 +47,10 @@ module _ (k : ℕ) (p arena : List ℕ) (h : k + length p ≤ length arena) wher
       omega (arith, before)
 
 -- the front of a plane is what was put there
-pub front-is : (n : ℕ) (p plane : List ℕ) → length p ≡ n → n ≤ length plane → (take n (put 0 p plane) ≡ p) × (length (put 0 p plane) ≡ length plane)
+pub front-is : (n : ℕ) (p plane : List ℕ) → length p ≡ n → n ≤ length plane → (take n (putWords 0 p plane) ≡ p) × (length (putWords 0 p plane) ≡ length plane)
 front-is n p plane e h =
     let l : 0 + length p ≤ length plane = omega arith in
-    (ap (λ (k : ℕ). take k (put 0 p plane)) (sym e) ∙ put-span 0 p plane l, put-length 0 p plane l)
+    (ap (λ (k : ℕ). take k (putWords 0 p plane)) (sym e) ∙ put-span 0 p plane l, put-length 0 p plane l)
 
 -- the first n words of both planes were lent and hold the words of p
 pub front-back : (n : ℕ) (left p scratch : Planes) → left ≡ p → n ≡ length (p .value) → n ≡ length (p .unknown)

@@ -1,8 +1,8 @@
 -- Every starred case holds, by computation.
-use lib.Dec.{T}
+use mathlib.Core.Path.{refl}
 use Rattle.words.specs.Vector.{tabulate}
-use Rattle.starred.specs.Starred.{hold, starred}
+use Rattle.starred.specs.Starred.{Hold, starred}
 
-pub starred-hold : T (hold starred)
+pub starred-hold : Hold starred
 unfolding tabulate
-starred-hold = tt
+starred-hold = refl

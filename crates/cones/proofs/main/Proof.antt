@@ -2,7 +2,7 @@
 use mathlib.Core.Path.{ap}
 use Prim.Native.Nat.{zero-le}
 use Rattle.lines.proofs.Put.{place-within}
-use Rattle.steps.specs.Run.{Written}
+use Rattle.steps.specs.Run.{Final}
 use borrow.Author.Needs.{needs}
 use Rattle.cones.proofs.main.Statement.{statement}
 use Rattle.cones.proofs.main.Tie as tie
@@ -55,7 +55,7 @@ part-write-all-start c = search needs
 part-write-all-end : tie.Need-part-write-all-end
 part-write-all-end c =
     let r = c .before .before .before .before .before .run in
-    let e = ap (λ (w : Written). w .out) (r .ensures) in
+    let e = ap (λ (w : Final). w .out) (r .ensures) in
     place-within _ 0 _ zero-le e
 
 write-all-requires-2 : tie.Need-write-all-requires-2
