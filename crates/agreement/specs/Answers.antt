@@ -1,4 +1,5 @@
--- When the answer of a line is what a call gave.
+-- When the answer of a line is what a call gave: a refusal by its number (document 01, "Numbers for what is not done"), a bit by its code ("Bit
+-- code"), a header by its three parts ("Header and operand").
 use Prim.Native.Nat.{ℕ, _/_, _%_}
 use mathlib.Core.Bool.{Bool, false, Bool·beq, cond, _&&_}
 use lib.Dec.{eqb}

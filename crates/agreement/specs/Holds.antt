@@ -1,4 +1,4 @@
--- When a plane is as a line of a table says, which leaves out leading zeros.
+-- When a plane (document 01, "Planes") is as a line of a table says, which leaves out leading zeros; the tables are described in `replay`.
 use Prim.Native.Nat.{ℕ, suc}
 use mathlib.Core.Bool.{Bool, true, _&&_}
 use mathlib.Core.List.{List, [], _∷_}

@@ -1,5 +1,5 @@
 -- The answers of the entries as they cross to C: a refusal is its number (document 01, "Numbers for what is not done") and 0 where the call was
--- done, a bit is its code ("Bit code"), and what a refused call leaves unsaid is 0.
+-- done, a bit is its code ("Bit code"), and the other fields of a refused call are 0.
 use mathlib.Core.Bool.{Bool, false, cond}
 use Prim.Native.Nat.{ℕ}
 use lib.Ieee.{Float}

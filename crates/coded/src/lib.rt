@@ -1,5 +1,5 @@
 // The answers of the entries as numbers, for C and Rust. A refusal is its number, and 0 is done; a bit is its code, a word of both planes two
-// numbers; what a refused call leaves unsaid is 0.
+// numbers; the other fields of a refused call are 0.
 use insert::ChangeAnswer;
 use planes::BitAnswer;
 use planes::WordAnswer;

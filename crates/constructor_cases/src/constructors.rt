@@ -29,7 +29,8 @@ fn make(
 // Whether a call gives the line's answer and leaves the planes as that says.
 fn makes(call: usize, line: &[u8], width: u32, value: &mut [u64], unknown: &mut [u64]) -> bool {
     let r = make(call, line, width, value, unknown);
-    is_vector(plain(line, 0), r) && are_left(line, 3, value, unknown)
+    let left = are_left(line, 3, value, unknown);
+    is_vector(plain(line, 0), r) && left.same
 }
 
 // Whether the call of a line has the line's answer.

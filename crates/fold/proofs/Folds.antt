@@ -16,7 +16,7 @@ use Rattle.bit.specs.Rules.{same, andBit, orBit, xorBit, notBit}
 use Rattle.bit.proofs.Tests.{and-left, and-right}
 use Rattle.bit.proofs.Table.{all, each, same-eq}
 use Rattle.fold.specs.declared.Truth.the-variants.{False, True, Unknown}
-use Rattle.fold.specs.Fold.{any, count, isUnknown, reduceAnd, reduceOr, reduceXor, contains, truthOf, truthBit}
+use Rattle.fold.specs.Fold.{anyOf, countOf, isUnknown, reduceAnd, reduceOr, reduceXor, contains, truthOf, truthBit}
 
 -- ---- and, or
 
@@ -36,11 +36,11 @@ module _ (f : LogicBit → LogicBit → LogicBit) (d e : LogicBit) where
   abbrev steps : LogicBit → Bool → Bool → Bool
   steps b seen x = same (f b (decided d e seen x)) (decided d e (same d b || seen) (isUnknown b || x))
 
-  folded : T (all (λ b. both (λ seen. both (steps b seen)))) → (bs : List LogicBit) → decided d e (any (same d) bs) (any isUnknown bs) ≡ foldr f e bs
+  folded : T (all (λ b. both (λ seen. both (steps b seen)))) → (bs : List LogicBit) → decided d e (anyOf (same d) bs) (anyOf isUnknown bs) ≡ foldr f e bs
   folded t [] = refl
   folded t (b ∷ bs) =
-      let seen : Bool = any (same d) bs in
-      let x : Bool = any isUnknown bs in
+      let seen : Bool = anyOf (same d) bs in
+      let x : Bool = anyOf isUnknown bs in
       sym (same-eq (f b (decided d e seen x)) (decided d e (same d b || seen) (isUnknown b || x))
       (each-bool (steps b seen) (each-bool (λ seen. both (steps b seen)) (each (λ b. both (λ seen. both (steps b seen))) t b) seen) x))
       ∙ ap (f b) (folded t bs)
@@ -81,12 +81,12 @@ xor-step Z x n = refl
 
 pub xor-fold : (bs : List LogicBit) → reduceXor bs ≡ foldr xorBit Zero bs
 xor-fold [] = refl
-xor-fold (b ∷ bs) = xor-step b (any isUnknown bs) (count (same One) bs) ∙ ap (xorBit b) (xor-fold bs)
+xor-fold (b ∷ bs) = xor-step b (anyOf isUnknown bs) (countOf (same One) bs) ∙ ap (xorBit b) (xor-fold bs)
 
 -- ---- truth
 
 pub truth-or : (bs : List LogicBit) → truthBit (truthOf bs) ≡ reduceOr bs
-truth-or bs = go (any (same One) bs) (any isUnknown bs)
+truth-or bs = go (anyOf (same One) bs) (anyOf isUnknown bs)
   where
     go : (seen x : Bool) → truthBit (cond seen True (cond x Unknown False)) ≡ decided One Zero seen x
     go true x = refl
@@ -94,7 +94,7 @@ truth-or bs = go (any (same One) bs) (any isUnknown bs)
     go false false = refl
 
 pub contains-and : (bs : List LogicBit) → notBit (truthBit (contains Zero bs)) ≡ reduceAnd bs
-contains-and bs = go (any (same Zero) bs) (any isUnknown bs)
+contains-and bs = go (anyOf (same Zero) bs) (anyOf isUnknown bs)
   where
     go : (seen x : Bool) → notBit (truthBit (cond seen True (cond x Unknown False))) ≡ decided Zero One seen x
     go true x = refl

@@ -20,7 +20,7 @@ use Rattle.words.specs.Planes.{stored, fromPlanes}
 use Rattle.words.proofs.Digits.{bit-and, bit-xor, bit-not, bit-ones, bit-of-zero, bit-lt, bit-mod, bit-mod-above, lt-or-ge}
 use Rattle.words.proofs.Planes.{length-tabulate}
 use Rattle.fold.specs.declared.Truth.the-variants.{False, True, Unknown}
-use Rattle.fold.specs.Fold.{any, isUnknown, knownBit, contains}
+use Rattle.fold.specs.Fold.{anyOf, isUnknown, knownBit, contains}
 use Rattle.fold.specs.Scanned.{some}
 use Rattle.fold.specs.Scanned as scanned
 use Rattle.fold.proofs.Gather.{gather-cong}
@@ -85,7 +85,7 @@ module _ (w : ℕ) (v u : List ℕ) (one : Bool) where
 
       pub found : (x ≡ 0 → ⊥) → True ≡ contains (knownBit one) bits
       found e =
-          sym (ap (λ (z : Bool). cond z True (cond (any isUnknown bits) Unknown False))
+          sym (ap (λ (z : Bool). cond z True (cond (anyOf isUnknown bits) Unknown False))
           (scan.found (same (knownBit one)) isUnknown (knownBit (not one)) Zero bits (differs one) seen k s x h e))
 
     module _ (flip : ℕ) (f : flip ≡ flipOf one) (k : ℕ) where

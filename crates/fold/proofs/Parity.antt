@@ -23,7 +23,7 @@ use Rattle.words.specs.Vector.{at, bitAt}
 use Rattle.words.specs.Planes.{stored, fromPlanes}
 use Rattle.words.proofs.Digits.{bit-lt, bit-of-zero, differ-lt, lt-or-ge}
 use Rattle.words.proofs.Planes.{length-tabulate, plane-bit}
-use Rattle.fold.specs.Fold.{count, isUnknown, reduceXor}
+use Rattle.fold.specs.Fold.{countOf, isUnknown, reduceXor}
 use Rattle.fold.specs.Scanned.{gather, some}
 use Rattle.fold.proofs.Gather.{gather-cong, gather-word, of-list, of-digits}
 use Rattle.fold.proofs.Places.{some-word, any-some, any-found, WordPlanes, unknownAt, inside, outside, unknown-word}
@@ -88,7 +88,7 @@ module _ (w : ℕ) (v u : List ℕ) where
   pub parity : (sum k : ℕ) → Summed sum k → w ≤ k * 64 → (z : Bool) → eqb (ones sum % 2) 0 ≡ z → cond z Zero One ≡ reduceXor bits
   parity sum k s l z e =
       let b : length bits ≤ k * 64 = rw length-tabulate l in
-      let n : count (same One) bits ≡ total (k * 64) oneAt = of-list _+_ 0 zero-add (count (same One)) oneIn refl (λ b bs. refl) Zero refl bits (k * 64) b in
+      let n : countOf (same One) bits ≡ total (k * 64) oneAt = of-list _+_ 0 zero-add (countOf (same One)) oneIn refl (λ b bs. refl) Zero refl bits (k * 64) b in
       sym (ap₂ (λ (x y : Bool). cond x X (cond y Zero One))
       (any-some isUnknown Zero refl bits (k * 64) b ∙ s .known)
       (ap (λ (n : ℕ). eqb (n % 2) 0) n ∙ ap (λ (n : ℕ). eqb n 0) (sym (s .odd)) ∙ e))
@@ -113,6 +113,6 @@ module _ (w : ℕ) (v u : List ℕ) where
 
       pub unknown-found : (getD u k 0 ≡ 0 → ⊥) → X ≡ reduceXor bits
       unknown-found e =
-          sym (ap (λ (z : Bool). cond z X (cond (eqb (count (same One) bits % 2) 0) Zero One))
+          sym (ap (λ (z : Bool). cond z X (cond (eqb (countOf (same One) bits % 2) 0) Zero One))
           (any-found isUnknown Zero refl bits ((k + 1) * 64)
           (some-word k (unknownAt bits) ∙ ap₂ _||_ (s .known) (sym (unknown-word w v u p k) ∙ ap not (ne-eqb (getD u k 0) 0 e)))))

@@ -20,7 +20,7 @@ use Rattle.words.specs.Vector.{at, bitAt, tabulate}
 use Rattle.words.specs.Planes.{stored, planeBit, fromPlanes, Plane}
 use Rattle.words.proofs.Digits.{bit-lt, lt-or-ge}
 use Rattle.words.proofs.Planes.{getD-tabulate, getD-tabulate-out, plane-bit}
-use Rattle.fold.specs.Fold.{any, isUnknown}
+use Rattle.fold.specs.Fold.{anyOf, isUnknown}
 use Rattle.fold.specs.Scanned.{gather, some}
 use Rattle.fold.proofs.Gather.{gather-cong, gather-add, gather-word, of-list, of-digits}
 
@@ -28,17 +28,17 @@ pub some-word : (k : ℕ) (f : ℕ → Bool) → some ((k + 1) * 64) f ≡ (some
 some-word = gather-word _||_ false (λ b. refl) or-assoc
 
 module _ {B : Type 0} (p : B → Bool) (e : B) (fails : p e ≡ false) (bs : List B) where
-  pub any-some : (n : ℕ) → length bs ≤ n → any p bs ≡ some n (λ i. p (getD bs i e))
-  any-some = of-list _||_ false (λ b. refl) (any p) p refl (λ b bs. refl) e fails bs
+  pub any-some : (n : ℕ) → length bs ≤ n → anyOf p bs ≡ some n (λ i. p (getD bs i e))
+  any-some = of-list _||_ false (λ b. refl) (anyOf p) p refl (λ b bs. refl) e fails bs
 
-  pub any-found : (n : ℕ) → some n (λ i. p (getD bs i e)) ≡ true → any p bs ≡ true
+  pub any-found : (n : ℕ) → some n (λ i. p (getD bs i e)) ≡ true → anyOf p bs ≡ true
   any-found n h =
       any-some (n + length bs) (omega arith)
       ∙ gather-add _||_ false (λ b. refl) or-assoc n (length bs) (λ i. p (getD bs i e))
       ∙ ap (λ (z : Bool). z || some (length bs) (λ i. p (getD bs (n + i) e))) h
 
 -- some place of a tabulated list
-pub any-tabulate : {B : Type 0} (p : B → Bool) (n : ℕ) (f : ℕ → B) → any p (tabulate n f) ≡ some n (λ i. p (f i))
+pub any-tabulate : {B : Type 0} (p : B → Bool) (n : ℕ) (f : ℕ → B) → anyOf p (tabulate n f) ≡ some n (λ i. p (f i))
 unfolding tabulate gather
 any-tabulate p zero f = refl
 any-tabulate p (suc n) f = ap (λ (z : Bool). p (f 0) || z) (any-tabulate p n (λ i. f (suc i)))

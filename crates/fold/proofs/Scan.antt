@@ -9,7 +9,7 @@ use borrow.Author.Tests.{ne-eqb}
 use lib.Dec.{eqb}
 use lib.ListN.{length, getD}
 use lib.Bits.{bitOr}
-use Rattle.fold.specs.Fold.{any}
+use Rattle.fold.specs.Fold.{anyOf}
 use Rattle.fold.specs.Scanned.{gather, some, Scanned}
 use Rattle.fold.proofs.Places.{some-word, any-some, any-found, or-nonzero}
 
@@ -22,10 +22,10 @@ module _ {B : Type 0} (p q : B → Bool) (e d : B) (bs : List B) where
   start = record { absent = refl; told = refl }
 
   module _ (fails : p e ≡ false) (seen k : ℕ) (s : Behind seen k) where
-    pub none-left : length bs ≤ k * 64 → any p bs ≡ false
+    pub none-left : length bs ≤ k * 64 → anyOf p bs ≡ false
     none-left l = any-some p e fails bs (k * 64) l ∙ s .absent
 
-    pub open-told : q d ≡ false → length bs ≤ k * 64 → any q bs ≡ not (eqb seen 0)
+    pub open-told : q d ≡ false → length bs ≤ k * 64 → anyOf q bs ≡ not (eqb seen 0)
     open-told closed l = any-some q d closed bs (k * 64) l ∙ sym (s .told)
 
     -- by a word x that is not 0 where one passes p in word k
@@ -36,7 +36,7 @@ module _ {B : Type 0} (p q : B → Bool) (e d : B) (bs : List B) where
         told = or-nonzero seen y ∙ ap₂ _||_ (s .told) g ∙ sym (some-word k (λ i. q (getD bs i d)));
       }
 
-      pub found : (x ≡ 0 → ⊥) → any p bs ≡ true
+      pub found : (x ≡ 0 → ⊥) → anyOf p bs ≡ true
       found z =
           any-found p e fails bs ((k + 1) * 64)
           (some-word k (λ i. p (getD bs i e)) ∙ ap₂ _||_ (s .absent) (sym h ∙ ap not (ne-eqb x 0 z)))

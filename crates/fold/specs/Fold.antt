@@ -11,29 +11,29 @@ use Rattle.fold.specs.declared.Truth.the-variants.{False, True, Unknown}
 
 module _ {A : Type 0} where
   -- some member of a list passes the test
-  abbrev pub any : (A → Bool) → List A → Bool
-  any p [] = false
-  any p (b ∷ bs) = p b || any p bs
+  abbrev pub anyOf : (A → Bool) → List A → Bool
+  anyOf p [] = false
+  anyOf p (b ∷ bs) = p b || anyOf p bs
 
 -- how many bits pass the test
-abbrev pub count : (LogicBit → Bool) → List LogicBit → ℕ
-count p [] = 0
-count p (b ∷ bs) = cond (p b) 1 0 + count p bs
+abbrev pub countOf : (LogicBit → Bool) → List LogicBit → ℕ
+countOf p [] = 0
+countOf p (b ∷ bs) = cond (p b) 1 0 + countOf p bs
 
 abbrev pub isUnknown : LogicBit → Bool
 isUnknown b = not (known b)
 
 -- 0 on any known 0, else x on any unknown, else 1
 abbrev pub reduceAnd : List LogicBit → LogicBit
-reduceAnd bs = cond (any (same Zero) bs) Zero (cond (any isUnknown bs) X One)
+reduceAnd bs = cond (anyOf (same Zero) bs) Zero (cond (anyOf isUnknown bs) X One)
 
 -- 1 on any known 1, else x on any unknown, else 0
 abbrev pub reduceOr : List LogicBit → LogicBit
-reduceOr bs = cond (any (same One) bs) One (cond (any isUnknown bs) X Zero)
+reduceOr bs = cond (anyOf (same One) bs) One (cond (anyOf isUnknown bs) X Zero)
 
 -- x on any unknown, else whether the number of ones is odd
 abbrev pub reduceXor : List LogicBit → LogicBit
-reduceXor bs = cond (any isUnknown bs) X (cond (eqb (count (same One) bs % 2) 0) Zero One)
+reduceXor bs = cond (anyOf isUnknown bs) X (cond (eqb (countOf (same One) bs % 2) 0) Zero One)
 
 abbrev pub knownBit : Bool → LogicBit
 knownBit true = One
@@ -41,7 +41,7 @@ knownBit false = Zero
 
 -- whether the known bit b stands in a vector: true where it does, else unknown on an unknown bit, else false
 abbrev pub contains : LogicBit → List LogicBit → Truth
-contains b bs = cond (any (same b) bs) True (cond (any isUnknown bs) Unknown False)
+contains b bs = cond (anyOf (same b) bs) True (cond (anyOf isUnknown bs) Unknown False)
 
 -- true on a known 1, else unknown on an unknown bit, else false
 abbrev pub truthOf : List LogicBit → Truth

@@ -17,7 +17,7 @@ abbrev pub some : ℕ → (ℕ → Bool) → Bool
 some = gather _||_ false
 
 module _ {B : Type 0} (p q : B → Bool) (e d : B) (bs : List B) where
-  -- what a scan by words knows behind k words: no member below passes p, and the word `seen` is 0 where none there passes q. Beyond its end the list
+  -- what a scan by words knows behind k words: no member below passes p, and the word `seen` is 0 exactly where none there passes q. Beyond its end the list
   -- is continued by e for p and by d for q
   pub record Scanned (seen k : ℕ) : Type 0 where
     pub absent : some (k * 64) (λ i. p (getD bs i e)) ≡ false

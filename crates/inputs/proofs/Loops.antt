@@ -39,12 +39,12 @@ listed-thin s v n t = go (checkInput s (v .header) (planesOf (v .bits)))
 
 -- the state s with the inputs from i on has the outcome of the state `from` with all n of them
 pub record Fed (from : State) (n : ℕ) (f : ℕ → Vector) (s : State) (i : ℕ) : Type 0 where
-  pub narrow : AllThin (s .store)
+  pub thin : AllThin (s .store)
   pub left : addInputs from (tabulate n f) ≡ addInputs s (drop i (tabulate n f))
 
 module _ (n : ℕ) (f : ℕ → Vector) where
   pub feed-start : (from s : State) → s ≡ from → AllThin (from .store) → Fed from n f s 0
-  feed-start from s e t = subst (λ (z : State). Fed from n f z 0) (sym e) (record { narrow = t; left = refl })
+  feed-start from s e t = subst (λ (z : State). Fed from n f z 0) (sym e) (record { thin = t; left = refl })
 
   module _ (from s : State) (i : ℕ) (h : Fed from n f s i) where
     pub feed-done : n ≤ i → outcome (given tt) s ≡ addInputs from (tabulate n f)
@@ -57,7 +57,7 @@ module _ (n : ℕ) (f : ℕ → Vector) where
       pub feed-more : (k : ℕ) (t : State) → outcome (given k) t ≡ addListed s (f i) → Thin (f i .header) → Fed from n f t (i + 1)
       feed-more k t e thin =
           subst (λ (z : State). Fed from n f z (i + 1)) (sym (ap (λ (o : Outcome ℕ State). o .left) e)) (record {
-            narrow = listed-thin s (f i) (h .narrow) thin;
+            thin = listed-thin s (f i) (h .thin) thin;
             left = onto ∙ input-turn s (f i) (drop (i + 1) (tabulate n f)) k (sym (ap (λ (o : Outcome ℕ State). o .answer) e));
           })
 
@@ -66,5 +66,5 @@ module _ (n : ℕ) (f : ℕ → Vector) where
       feed-last k t e thin = (
         ap (λ (z : State). outcome (refused k) z) (ap (λ (o : Outcome ℕ State). o .left) e)
             ∙ sym (onto ∙ input-last s (f i) (drop (i + 1) (tabulate n f)) k (sym (ap (λ (o : Outcome ℕ State). o .answer) e))),
-        subst (λ (z : State). AllThin (z .store)) (sym (ap (λ (o : Outcome ℕ State). o .left) e)) (listed-thin s (f i) (h .narrow) thin),
+        subst (λ (z : State). AllThin (z .store)) (sym (ap (λ (o : Outcome ℕ State). o .left) e)) (listed-thin s (f i) (h .thin) thin),
       )

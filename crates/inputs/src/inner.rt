@@ -1,5 +1,5 @@
 // One input of a list, and all of them, added to an empty store. These ask their caller for a list that was read from the text.
-use crate::Fed;
+use crate::InputsAnswer;
 use charplanes::inner::fill_planes;
 use refusal::Verdict;
 use steplist::Input;
@@ -71,7 +71,7 @@ pub fn add_inputs(
     text: &[u8],
     arena_value: &mut [u64],
     arena_unknown: &mut [u64],
-) -> Fed
+) -> InputsAnswer
     requires { ⌜ Readable (now text) list ⌝ }
     ensures { λ r. ⌜ outcome (verdict (r .verdict)) (state (r .store) (lent (now («arena_value» .exit)) (now («arena_unknown» .exit)))) ≡ addInputs (state emptyStore (lent (now («arena_value» .entry)) (now («arena_unknown» .entry)))) (listIn (now (text .entry)) list .inputs) ⌝ }
     ensures { λ r. ⌜ AllThin (r .store) ⌝ }
@@ -86,7 +86,7 @@ pub fn add_inputs(
         let answer = t.answer;
         match answer {
             CellAnswer::Refused(r) => {
-                return Fed {
+                return InputsAnswer {
                     verdict: Verdict::Refused(r),
                     store: s,
                 };
@@ -95,7 +95,7 @@ pub fn add_inputs(
         }
         i += 1;
     }
-    Fed {
+    InputsAnswer {
         verdict: Verdict::Accepted,
         store: s,
     }

@@ -5,7 +5,7 @@ use store::Store;
 pub mod inner;
 
 // What adding the inputs of a list answers, and the store that it leaves.
-pub struct Fed {
+pub struct InputsAnswer {
     pub verdict: Verdict,
     pub store: Store,
 }

@@ -92,7 +92,7 @@ NoFill cs = (j : ℕ) → T (not (cellAt cs j .header .«is_fill»))
 
 -- ---- a step that is known exactly
 
--- an op whose arms are told apart
+-- merge: what it gives is read from either of its operands, and not from its result
 abbrev pub merges : Family → Bool
 merges (family.Join bitwise.And) = false
 merges (family.Join bitwise.Or) = false

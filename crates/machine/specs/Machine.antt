@@ -22,7 +22,7 @@ pub record Room : Type 0 where
 abbrev pub headersOf : List Vector → List Header
 headersOf cs = map (λ (c : Vector). c .header) cs
 
--- what an operand reads that the op does not use and that names no cell
+-- the empty vector: it is read where a number names no cell, which only an operand that the op does not use can do in a step that is run
 abbrev pub noVector : Vector
 noVector = record { header = plain 0; bits = [] }
 

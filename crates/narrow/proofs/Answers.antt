@@ -26,7 +26,7 @@ use Rattle.words.proofs.Planes.{length-tabulate}
 use Rattle.words.proofs.Lanes.{Lane, word, gives, lane}
 use Rattle.words.proofs.Lanes.Lane.{av, au, neg, and, or}
 use Rattle.fold.specs.declared.Truth.the-variants.{False, True, Unknown}
-use Rattle.fold.specs.Fold.{any, count, isUnknown, reduceAnd, reduceOr, reduceXor, truthOf}
+use Rattle.fold.specs.Fold.{anyOf, countOf, isUnknown, reduceAnd, reduceOr, reduceXor, truthOf}
 use Rattle.fold.specs.Scanned.{some, gather}
 use Rattle.fold.proofs.Gather.{gather-cong, of-list}
 use Rattle.fold.proofs.Places.{nonzero, WordPlanes}
@@ -47,7 +47,7 @@ marked : (b : Bool) → eqb (mark b) 1 ≡ b
 marked true = refl
 marked false = refl
 
-any-tabulate : (p : LogicBit → Bool) (n : ℕ) (f : ℕ → LogicBit) → any p (tabulate n f) ≡ some n (λ i. p (f i))
+any-tabulate : (p : LogicBit → Bool) (n : ℕ) (f : ℕ → LogicBit) → anyOf p (tabulate n f) ≡ some n (λ i. p (f i))
 unfolding tabulate gather
 any-tabulate p zero f = refl
 any-tabulate p (suc n) f = ap (_||_ (p (f 0))) (any-tabulate p n (λ i. f (suc i)))
@@ -67,7 +67,7 @@ module _ (p : LogicBit → Bool) (e : Lane) (t : T (gives e (λ a b. mark (p a))
       ∙ marked (p (bitOf x j))
 
   -- the places below n
-  any-low : (n m : ℕ) → n ≤ 64 → m ≡ 2 ^ n - 1 → not (eqb (bitAnd marks m) 0) ≡ any p (vectorOf n (single x))
+  any-low : (n m : ℕ) → n ≤ 64 → m ≡ 2 ^ n - 1 → not (eqb (bitAnd marks m) 0) ≡ anyOf p (vectorOf n (single x))
   any-low n m h mask =
       ap (λ (y : ℕ). not (eqb y 0)) (ap (bitAnd marks) mask ∙ and-mask marks n)
       ∙ nonzero n (marks % 2 ^ n) (mod-lt marks (pow-pos n))
@@ -75,7 +75,7 @@ module _ (p : LogicBit → Bool) (e : Lane) (t : T (gives e (λ a b. mark (p a))
       (λ j l. ap (λ (d : ℕ). eqb d 1) (bit-mod marks n j l) ∙ marks-bit j (omega arith) ∙ ap p (place x j (omega arith) ∙ ap (placeOf x) (zero-add j)))
       ∙ sym (any-tabulate p n (placeOf x))
 
-  any-word : not (eqb marks 0) ≡ any p (vectorOf 64 (single x))
+  any-word : not (eqb marks 0) ≡ anyOf p (vectorOf 64 (single x))
   any-word =
       let l : marks < 2 ^ 64 = rw marks-are (pack-lt 64 (λ j. mark (p (bitOf x j))) (λ j _. mark-lt (p (bitOf x j)))) in
       ap (λ (y : ℕ). not (eqb y 0)) (sym (and-mask marks 64 ∙ mod-eq-of-lt l)) ∙ any-low 64 (2 ^ 64 - 1) (omega arith) refl
@@ -134,11 +134,11 @@ module _ (w : ℕ) (x : Word) (hv : Plane w (x .value ∷ [])) (hu : Plane w (x 
     narrow : L (vectorOf w (single x)) ≡ L (vectorOf 64 (single x))
     narrow = gathered w (at-most w (x .value) hv) ∙ gather-cong op e 64 _ _ (λ j _. ap g (same-place j)) ∙ sym (gathered 64 (omega arith))
 
-  any-narrow : (p : LogicBit → Bool) → p Zero ≡ false → any p (vectorOf w (single x)) ≡ any p (vectorOf 64 (single x))
-  any-narrow p none = narrow _||_ false (λ b. refl) (any p) p refl (λ b bs. refl) none
+  any-narrow : (p : LogicBit → Bool) → p Zero ≡ false → anyOf p (vectorOf w (single x)) ≡ anyOf p (vectorOf 64 (single x))
+  any-narrow p none = narrow _||_ false (λ b. refl) (anyOf p) p refl (λ b bs. refl) none
 
-  count-narrow : (p : LogicBit → Bool) → p Zero ≡ false → count p (vectorOf w (single x)) ≡ count p (vectorOf 64 (single x))
-  count-narrow p none = narrow _+_ 0 zero-add (count p) (λ b. mark (p b)) refl (λ b bs. refl) (ap mark none)
+  count-narrow : (p : LogicBit → Bool) → p Zero ≡ false → countOf p (vectorOf w (single x)) ≡ countOf p (vectorOf 64 (single x))
+  count-narrow p none = narrow _+_ 0 zero-add (countOf p) (λ b. mark (p b)) refl (λ b bs. refl) (ap mark none)
 
   pub or-narrow : reduceOr (vectorOf w (single x)) ≡ reduceOr (vectorOf 64 (single x))
   or-narrow = ap₂ (λ (s u : Bool). cond s One (cond u X Zero)) (any-narrow (same One) refl) (any-narrow isUnknown refl)

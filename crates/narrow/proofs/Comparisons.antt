@@ -19,7 +19,7 @@ use Rattle.words.proofs.Planes.{getD-tabulate, getD-tabulate-out, length-tabula
 use Rattle.value.specs.declared.Header.{Header}
 use Rattle.value.specs.Checks.{vector}
 use Rattle.value.specs.Constructors.{plain}
-use Rattle.fold.specs.Fold.{any}
+use Rattle.fold.specs.Fold.{anyOf}
 use Rattle.fold.proofs.Gather.{gather-cong}
 use Rattle.fold.proofs.Places.{any-some}
 use Rattle.extension.specs.Extension.{extendsByTop, stretched, signedFor, signExtended, top, operandAt}
@@ -95,7 +95,7 @@ module _ (op : Comparison) (a b : Header) (x y : Word) (n : Compares op a x) (m 
       (lt-or-ge j w)
 
   some-place : (t : LogicBit → LogicBit → Bool) → t Zero Zero ≡ false
-      → any (onPair t) (places op (vector a (single x)) (vector b (single y))) ≡ any (onPair t) (wordPlaces 64 x y)
+      → anyOf (onPair t) (places op (vector a (single x)) (vector b (single y))) ≡ anyOf (onPair t) (wordPlaces 64 x y)
   some-place t fails =
       any-some (onPair t) zeros fails (places op (vector a (single x)) (vector b (single y))) 64
       (rw length-tabulate (omega (arith, at-most (a .width) (x .value) (n .value-plane), at-most (b .width) (y .value) (m .value-plane))))

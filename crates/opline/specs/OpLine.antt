@@ -18,7 +18,7 @@ use Rattle.ops.specs.Ops.{familyOf, questionOperands}
 unfoldable pub nameLine : List ℕ → List (List ℕ) → List ℕ → Got ℕ
 nameLine k names t = next (key k t) (λ x. oneOf names 0)
 
--- the value of l that has the name; d is what a number past the end would read, and none is
+-- the value of l that has the name; d is never given, since a name's number is below the length of l
 unfoldable pub choiceLine : {A : Type 0} → List ℕ → (A → List ℕ) → List A → A → List ℕ → Got A
 choiceLine k name l d t = next (nameLine k (map name l) t) (λ n. found (getD l n d))
 

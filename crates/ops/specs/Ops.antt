@@ -28,7 +28,7 @@ use Rattle.ops.specs.declared.Question.the-variants as question
 use Rattle.ops.specs.declared.Family.{Family}
 use Rattle.ops.specs.declared.Family.the-variants as family
 
--- what a number past the end of a list's steps reads
+-- the step that is read past the end of a list
 abbrev pub noStep : Step
 noStep = record { op = And; a = 0; b = 0; c = 0 }
 

@@ -29,7 +29,7 @@ use Rattle.value.specs.declared.Operand.{Operand}
 use Rattle.value.specs.declared.Operand.the-variants as variants
 use Rattle.value.specs.Checks.{checkOperand, vector}
 use Rattle.value.proofs.Checks.{vector-accepted}
-use Rattle.real.specs.Real.{counted, lowNumber, twosComplement, stretchedFill, vectorInteger, Whole}
+use Rattle.real.specs.Real.{counted, lowNumber, twosComplement, stretchedFill, vectorInteger, WholePlanes}
 
 counted-lt : (b : LogicBit) → counted b < 2
 counted-lt Zero = lit< tt
@@ -120,7 +120,7 @@ module _ {h : Header} {v u : List ℕ} (l : LowWords h v u) where
 
 -- ---- the operand
 
-pub accepted-whole : (o : Operand) (p : Planes) → checkOperand o p ≡ given tt → Whole o p
+pub accepted-whole : (o : Operand) (p : Planes) → checkOperand o p ≡ given tt → WholePlanes o p
 unfolding checkOperand
 accepted-whole (variants.Vector h) p e = let s = vector-accepted h p e .planes in (s .value-plane, s .unknown-plane)
 accepted-whole (variants.Real x) p e = tt

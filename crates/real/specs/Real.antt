@@ -49,6 +49,6 @@ realOf (operand.Vector h) p = Ieee.ofInt binary64 (vectorInteger (vector h p))
 realOf (operand.Real x) p = x
 
 -- what an operand that is not refused has: a vector's planes are whole; of a real nothing is asked
-abbrev pub Whole : Operand → Planes → Type 0
-Whole (operand.Vector h) p = Plane (h .width) (p .value) × Plane (h .width) (p .unknown)
-Whole (operand.Real x) p = Unit
+abbrev pub WholePlanes : Operand → Planes → Type 0
+WholePlanes (operand.Vector h) p = Plane (h .width) (p .value) × Plane (h .width) (p .unknown)
+WholePlanes (operand.Real x) p = Unit

@@ -8,7 +8,7 @@ ghost use lib.Ieee as Ieee;
 ghost use lib.Ieee.{binary64};
 ghost use Rattle.words.specs.Planes.{Plane, lent};
 ghost use Rattle.value.specs.Checks.{vector};
-ghost use Rattle.real.specs.Real.{vectorInteger, realOf, Whole};
+ghost use Rattle.real.specs.Real.{vectorInteger, realOf, WholePlanes};
 
 // The float nearest to a vector's integer, in which unknown bits count as 0.
 fn vector_real(h: Header, value: &[u64], unknown: &[u64]) -> f64
@@ -31,7 +31,7 @@ fn vector_real(h: Header, value: &[u64], unknown: &[u64]) -> f64
 
 // The real that an operand counts as.
 pub fn operand_real(o: Operand, value: &[u64], unknown: &[u64]) -> f64
-    requires { ⌜ Whole o (lent (now value) (now unknown)) ⌝ }
+    requires { ⌜ WholePlanes o (lent (now value) (now unknown)) ⌝ }
     ensures { λ r. ⌜ r ≡ realOf o (lent (now (value .entry)) (now (unknown .entry))) ⌝ }
 {
     match o {
@@ -42,8 +42,8 @@ pub fn operand_real(o: Operand, value: &[u64], unknown: &[u64]) -> f64
 
 // Whether two operands count as equal reals. A NaN is unequal to all, and both zeros are equal.
 pub fn equal_reals(a: Operand, av: &[u64], au: &[u64], b: Operand, bv: &[u64], bu: &[u64]) -> bool
-    requires { ⌜ Whole a (lent (now av) (now au)) ⌝ }
-    requires { ⌜ Whole b (lent (now bv) (now bu)) ⌝ }
+    requires { ⌜ WholePlanes a (lent (now av) (now au)) ⌝ }
+    requires { ⌜ WholePlanes b (lent (now bv) (now bu)) ⌝ }
     ensures { λ r. ⌜ r ≡ Ieee.eq (realOf a (lent (now (av .entry)) (now (au .entry)))) (realOf b (lent (now (bv .entry)) (now (bu .entry)))) ⌝ }
 {
     operand_real(a, av, au) == operand_real(b, bv, bu)

@@ -22,7 +22,6 @@ ghost use lib.Dec.{ltb};
 ghost use lib.ListN.{length};
 ghost use Rattle.io.specs.Counts.{Counts};
 ghost use Rattle.agreement.specs.Holds.{holdsFrom};
-ghost use Rattle.replay.specs.Left.{TellsHeld};
 
 // The table in a file, if it is shorter than the buffer, and else an empty one.
 pub fn table(path: &[u8], s: &mut [u8]) -> usize
@@ -112,15 +111,27 @@ fn hold_field(
     }
 }
 
+// Whether planes hold words, and the words.
+pub struct Held {
+    pub same: bool,
+    pub value: [u64; 65],
+    pub unknown: [u64; 65],
+}
+
 // Whether planes hold what the answer of a line leaves there: its bits or, where it is a refusal, those of field `out`.
-pub fn are_left(line: &[u8], out: usize, value: &[u64], unknown: &[u64]) -> bool
-    ensures { λ r. ⌜ TellsHeld r (now (value .entry)) (now (unknown .entry)) ⌝ }
+pub fn are_left(line: &[u8], out: usize, value: &[u64], unknown: &[u64]) -> Held
+    ensures { λ r. ⌜ r .same ≡ (holdsFrom 0 (now (value .entry)) (r .value) && holdsFrom 0 (now (unknown .entry)) (r .unknown)) ⌝ }
 {
     let f = plain(line, 0);
     let k = if f.is_refusal { out } else { 0 };
     let mut v = [0u64; 65];
     let mut u = [0u64; 65];
-    hold_field(line, k, value, unknown, &mut v, &mut u)
+    let same = hold_field(line, k, value, unknown, &mut v, &mut u);
+    Held {
+        same,
+        value: v,
+        unknown: u,
+    }
 }
 
 // Writes a line if it differs, and else if it is to be shown; gives on whether it agrees.

@@ -18,7 +18,7 @@ use Rattle.words.specs.Vector.{tabulate}
 use Rattle.words.specs.Planes.{lent}
 use Rattle.value.specs.declared.Header.{Header}
 use Rattle.value.specs.Checks.{Vector, vector}
-use Rattle.fold.specs.Fold.{any, isUnknown, reduceAnd}
+use Rattle.fold.specs.Fold.{anyOf, isUnknown, reduceAnd}
 use Rattle.fold.specs.Scanned.{Scanned}
 use Rattle.fold.proofs.Gather.{gather-cong}
 use Rattle.fold.proofs.Places.{any-tabulate}
@@ -88,15 +88,15 @@ module _ (op : Comparison) (ps : List (LogicBit × LogicBit)) where
   abbrev pub Compared : ℕ → ℕ → Type 0
   Compared = Scanned (onPair (mismatch op)) (onPair (unsure op)) zeros zeros ps
 
-  pub by-tests : (m : Bool) (d : ℕ) → any (onPair (mismatch op)) ps ≡ m → any (onPair (unsure op)) ps ≡ not (eqb d 0) → answered m d ≡ decided op ps
+  pub by-tests : (m : Bool) (d : ℕ) → anyOf (onPair (mismatch op)) ps ≡ m → anyOf (onPair (unsure op)) ps ≡ not (eqb d 0) → answered m d ≡ decided op ps
   by-tests m d hm hd = sym (ap₂ (λ (x y : Bool). cond x Zero (cond y X One)) hm hd ∙ ap (λ (x : LogicBit). cond m Zero x) (turned (eqb d 0)))
     where
       turned : (z : Bool) → cond (not z) X One ≡ cond z One X
       turned true = refl
       turned false = refl
 
-  pub apart : (d : ℕ) → any (onPair (mismatch op)) ps ≡ true → answered true d ≡ decided op ps
-  apart d h = sym (ap (λ (x : Bool). cond x Zero (cond (any (onPair (unsure op)) ps) X One)) h)
+  pub apart : (d : ℕ) → anyOf (onPair (mismatch op)) ps ≡ true → answered true d ≡ decided op ps
+  apart d h = sym (ap (λ (x : Bool). cond x Zero (cond (anyOf (onPair (unsure op)) ps) X One)) h)
 
   pub alike : (d k : ℕ) → Compared d k → length ps ≤ k * 64 → answered false d ≡ decided op ps
   alike d k s l =
@@ -124,7 +124,7 @@ module _ (n : ℕ) (f g : ℕ → LogicBit) where
   alikeAt i = notBit (xorBit (f i) (g i))
 
   through : (t : LogicBit → LogicBit → Bool) (p : LogicBit → Bool) → ((i : ℕ) → t (f i) (g i) ≡ p (alikeAt i))
-      → any (onPair t) (tabulate n (λ i. (f i, g i))) ≡ any p (tabulate n alikeAt)
+      → anyOf (onPair t) (tabulate n (λ i. (f i, g i))) ≡ anyOf p (tabulate n alikeAt)
   through t p h =
       any-tabulate (onPair t) n (λ i. (f i, g i)) ∙ gather-cong _||_ false n (λ i. t (f i) (g i)) (λ i. p (alikeAt i)) (λ i _. h i)
       ∙ sym (any-tabulate p n alikeAt)

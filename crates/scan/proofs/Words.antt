@@ -25,7 +25,7 @@ use Rattle.words.proofs.Digits.{pack-bit, pack-lt, pack-ext, bit-of-zero}
 use Rattle.words.proofs.Planes.{getD-tabulate, getD-tabulate-out, length-tabulate}
 use Rattle.words.proofs.Lanes.{Lane, word, gives, lane}
 use Rattle.words.proofs.Extend.{cut}
-use Rattle.fold.specs.Fold.{any}
+use Rattle.fold.specs.Fold.{anyOf}
 use Rattle.fold.specs.Scanned.{some}
 use Rattle.fold.proofs.Gather.{gather-cong}
 use Rattle.fold.proofs.Places.{any-some, nonzero, inside}
@@ -176,7 +176,7 @@ module _ (op : Comparison) (w : ℕ) (a b : Extent) (av au bv bu : List ℕ) whe
       (next-whole k (omega arith) (omega arith) (omega arith) (marksBy 0 0) (sym e) refl 0 (same-start k (omega arith) (omega arith) (omega arith) (λ i l. h i (omega arith)))))
 
 module _ (w : ℕ) (l : w ≤ 64) (a b : Word) where
-  some-place : (t : LogicBit → LogicBit → Bool) → t Zero Zero ≡ false → any (onPair t) (wordPlaces w a b) ≡ not (eqb (below w 0 (marked t a b)) 0)
+  some-place : (t : LogicBit → LogicBit → Bool) → t Zero Zero ≡ false → anyOf (onPair t) (wordPlaces w a b) ≡ not (eqb (below w 0 (marked t a b)) 0)
   some-place t fails =
       any-some (onPair t) zeros fails (wordPlaces w a b) 64 (rw length-tabulate l)
       ∙ gather-cong _||_ false 64 (λ j. onPair t (getD (wordPlaces w a b) j zeros)) (λ j. onPair t (getD (wordPlaces w a b) (0 * 64 + j) zeros))

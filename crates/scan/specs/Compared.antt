@@ -11,7 +11,7 @@ use Rattle.words.specs.declared.Word.{Word}
 use Rattle.words.specs.Vector.{tabulate, pack}
 use Rattle.words.specs.Planes.{Planes, fromPlanes, bitOf}
 use Rattle.value.specs.Checks.{Vector}
-use Rattle.fold.specs.Fold.{any}
+use Rattle.fold.specs.Fold.{anyOf}
 use Rattle.extension.specs.declared.Extent.{Extent}
 use Rattle.extension.specs.declared.Operator.{Operator}
 use Rattle.extension.specs.declared.Operator.the-variants as operator-of
@@ -60,7 +60,7 @@ onPair t p = t (p .0) (p .1)
 
 -- 0 if some place mismatches, else x if some place is unsure, else 1
 abbrev pub decided : Comparison → List (LogicBit × LogicBit) → LogicBit
-decided op ps = cond (any (onPair (mismatch op)) ps) Zero (cond (any (onPair (unsure op)) ps) X One)
+decided op ps = cond (anyOf (onPair (mismatch op)) ps) Zero (cond (anyOf (onPair (unsure op)) ps) X One)
 
 -- the two bits at each place of the larger width
 abbrev pub places : Comparison → Vector → Vector → List (LogicBit × LogicBit)

@@ -30,7 +30,7 @@ use Rattle.steplist.specs.declared.ListAnswer.{ListAnswer}
 abbrev pub inputIn : List ℕ → Input → Vector
 inputIn s x = record { header = x .header; bits = bitsIn s (x .place) (x .header .width) }
 
--- what a number past the end of the inputs reads
+-- the input that is read past the end of a list
 abbrev pub noInput : Input
 noInput = record { header = plain 0; place = 0 }
 

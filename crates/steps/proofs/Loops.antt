@@ -22,8 +22,8 @@ use Rattle.inputs.proofs.Thin.{thin-put}
 use Rattle.turn.proofs.Thin.{step-thin}
 use Rattle.inputs.proofs.Loops.{next-one, none-left}
 
-stepped-narrow : (m : Memory) (step : Step) → AllThin (m .state .store) → AllThin (addStep m step .left .state .store)
-stepped-narrow m step n = go (checkMemory m step)
+stepped-thin : (m : Memory) (step : Step) → AllThin (m .state .store) → AllThin (addStep m step .left .state .store)
+stepped-thin m step n = go (checkMemory m step)
   where
     go : (x : Answer Unit) → AllThin (orRefuse x m (outcome (given (m .state .store .count)) (stepped (stepVector (m .state) step) m)) .left .state .store)
     go (given u) = thin-put (stepVector (m .state) step .header) (m .state .store) n (step-thin (m .state) step n)
@@ -31,14 +31,14 @@ stepped-narrow m step n = go (checkMemory m step)
 
 -- the memory m and the place `at` of the buffer, with the steps from k on, leave what the memory `from` leaves with all n of them
 pub record Walked (from : Memory) (out : List ℕ) (n : ℕ) (f : ℕ → Step) (m : Memory) (d : List ℕ) (at k : ℕ) : Type 0 where
-  pub narrow : AllThin (m .state .store)
+  pub thin : AllThin (m .state .store)
   pub short : at ≤ k * 4111
   pub long : length d ≡ length out
   pub left : finalOf (runSteps from 0 (tabulate n f)) (buffer out 0) ≡ finalOf (runSteps m k (drop k (tabulate n f))) (buffer d at)
 
 module _ (n : ℕ) (f : ℕ → Step) (from : Memory) (out : List ℕ) where
   pub walk-start : AllThin (from .state .store) → Walked from out n f from out 0 0
-  walk-start t = record { narrow = t; short = omega arith; long = refl; left = refl }
+  walk-start t = record { thin = t; short = omega arith; long = refl; left = refl }
 
   module _ (m : Memory) (d : List ℕ) (at k : ℕ) (h : Walked from out n f m d at k) where
     pub walk-done : n ≤ k → finalOf (runSteps from 0 (tabulate n f)) (buffer out 0) ≡ final m (put (buffer d at) (doneText k))
@@ -61,7 +61,7 @@ module _ (n : ℕ) (f : ℕ → Step) (from : Memory) (out : List ℕ) where
             sym (shown ∙ ap (λ x. put (buffer d at) (resultText x k (stepVector (m .state) (f k) .bits))) g)
             in
             record {
-              narrow = subst (λ (z : Memory). AllThin (z .state .store)) left (stepped-narrow m (f k) (h .narrow));
+              thin = subst (λ (z : Memory). AllThin (z .state .store)) left (stepped-thin m (f k) (h .thin));
               short = omega (arith, short, h .short);
               long = same ∙ h .long;
               left =

@@ -13,14 +13,14 @@ use Rattle.store.specs.Step.{memory}
 use Rattle.store.proofs.Held.{empty-holds}
 use Rattle.inputs.specs.Inputs.{addInputs}
 use Rattle.steps.specs.Run.{afterInputs}
-use Rattle.steps.specs.Refinement.{Lent, runOn, Accepted, Plain, Refinement}
+use Rattle.steps.specs.Refinement.{LentMemory, runOn, Accepted, Plain, Refinement}
 use Rattle.steps.proofs.Plain.{Same, steps-plain}
 use Rattle.steps.proofs.Inputs.{Accepts, inputs-plain, accepts}
 
-abbrev room : Lent → Room
+abbrev room : LentMemory → Room
 room m = roomOf (m .arenas) (m .scratch)
 
-module _ (m : Lent) (A : List Vector) (level : length (m .arenas .unknown) ≡ length (m .arenas .value)) (sound : AllSound A) where
+module _ (m : LentMemory) (A : List Vector) (level : length (m .arenas .unknown) ≡ length (m .arenas .value)) (sound : AllSound A) where
   empty : Holds (state emptyStore (m .arenas)) []
   empty = empty-holds (m .arenas) (sym level)
 

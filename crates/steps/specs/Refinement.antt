@@ -20,12 +20,12 @@ abbrev pub stepList : List Vector → List Step → StepList
 stepList inputs ss = record { inputs = inputs; steps = ss }
 
 -- what is lent to a run, with any contents
-pub record Lent : Type 0 where
+pub record LentMemory : Type 0 where
   pub arenas : Planes
   pub scratch : Planes
 
 -- the run of a list from an empty store
-abbrev pub runOn : Lent → List Vector → List Step → Ran
+abbrev pub runOn : LentMemory → List Vector → List Step → Ran
 runOn m A ss = runList (emptied (m .arenas) (m .scratch)) (stepList A ss)
 
 -- two lent planes of the same lengths as two others
@@ -33,15 +33,15 @@ abbrev pub SameLengths : Planes → Planes → Type 0
 SameLengths p q = (length (q .value) ≡ length (p .value)) × (length (q .unknown) ≡ length (p .unknown))
 
 -- every input is accepted
-abbrev pub Accepted : Lent → List Vector → Type 0
+abbrev pub Accepted : LentMemory → List Vector → Type 0
 Accepted m A = addInputs (state emptyStore (m .arenas)) A .answer ≡ given tt
 
 -- a run is the plain machine's: it ends as that does, and the final store and arenas hold exactly that machine's cells
-pub record Plain (m : Lent) (A : List Vector) (ss : List Step) : Type 0 where
+pub record Plain (m : LentMemory) (A : List Vector) (ss : List Step) : Type 0 where
   pub ending : runOn m A ss .ending ≡ machineRun (roomOf (m .arenas) (m .scratch)) A ss .ending
   pub cells : Holds (runOn m A ss .memory .state) (machineRun (roomOf (m .arenas) (m .scratch)) A ss .cells)
 
-pub record Refined (m n : Lent) (A B : List Vector) (ss : List Step) : Type 0 where
+pub record Refined (m n : LentMemory) (A B : List Vector) (ss : List Step) : Type 0 where
   -- the same ending: the list's end, or the same refusal at the same step
   pub ending : runOn n B ss .ending ≡ runOn m A ss .ending
   -- each run is the plain machine's
@@ -56,5 +56,5 @@ pub record Refined (m n : Lent) (A B : List Vector) (ss : List Step) : Type 0 wh
 -- for any memory of arenas of equal length and any other of the same lengths, accepted inputs A, and every B that refines A. The part `kept` is of
 -- lists without case and wildcard comparisons, the parts `exact` of their steps; the others are of any list
 abbrev pub Refinement : Type 0
-Refinement = (m n : Lent) → length (m .arenas .unknown) ≡ length (m .arenas .value) → SameLengths (m .arenas) (n .arenas) → SameLengths (m .scratch) (n .scratch)
+Refinement = (m n : LentMemory) → length (m .arenas .unknown) ≡ length (m .arenas .value) → SameLengths (m .arenas) (n .arenas) → SameLengths (m .scratch) (n .scratch)
     → (A B : List Vector) (ss : List Step) → AllSound A → Accepted m A → Cellwise Refines A B → Refined m n A B ss

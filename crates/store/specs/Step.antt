@@ -22,7 +22,7 @@ pub record Memory : Type 0 where
 abbrev pub memory : State → Planes → Memory
 memory s p = record { state = s; scratch = p }
 
--- 14, then 12, 11 in operand order, 7 and 13, which go by the headers of the filled cells
+-- 14, then 12, 11, 7 and 13, which go by the headers of the filled cells
 abbrev pub checkMemory : Memory → Step → Answer Unit
 checkMemory m step =
     after (checkStore (m .state)) (checkStep (roomOf (m .state .arenas) (m .scratch)) (storeHeaders (m .state .store)) step)

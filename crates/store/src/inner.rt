@@ -1,4 +1,4 @@
-// The check of a store, a cell's words, and a cell put behind the last. Most of these ask their caller for what the check has found.
+// The check of a store, the place of an input's cell, and a cell put behind the last. Most of these ask their caller for what the check has found.
 use crate::PlaceAnswer;
 use crate::Store;
 use cells::Cell;

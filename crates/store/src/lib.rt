@@ -19,7 +19,7 @@ pub struct Store {
     pub count: usize,
 }
 
-// The number of the cell that was added.
+// The number of the cell that was added, or the refusal.
 pub enum CellAnswer {
     Added(usize),
     Refused(Refusal),
@@ -31,7 +31,7 @@ pub struct Stored {
     pub store: Store,
 }
 
-// The word at which the next cell begins.
+// The word at which the next cell begins, or the refusal.
 pub enum PlaceAnswer {
     At(usize),
     Refused(Refusal),

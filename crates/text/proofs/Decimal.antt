@@ -8,7 +8,7 @@ use Prim.Native.Nat.{ℕ, zero, suc, _+_, _-_, _*_, _/_, _%_, _≤_, _<_}
 use native.Mathlib.Omega.{arith}
 use lib.Dec.{ltb, leb, eqb}
 use borrow.Author.Tests.{ne-eqb, le-leb, le-ltb, lt-ltb, eqb-true, leb-true, eqb-false, ltb-true, ltb-false}
-use Rattle.text.specs.Read.{Got, found, broken, when, next, lineEnd, key, isDigit, more, number, numberLine}
+use Rattle.text.specs.Read.{Got, found, broken, onlyIf, next, lineEnd, key, isDigit, more, number, numberLine}
 use Rattle.text.specs.Write.{digits, decimal, numberText}
 use Rattle.text.specs.Exact.{Exact}
 use Rattle.text.proofs.Exact.{when-found, key-only, after-key}
@@ -61,7 +61,7 @@ more-only m n [] u v p q h = let z : _≡_ {A = ℕ} 0 1 = cc in absurd (omega a
 more-only m n (c ∷ t) u v p q h = go (eqb c 10) refl h (λ k e. more-only m (n * 10 + (c - 48)) t u v k e)
   where
     go : (b : Bool) → eqb c 10 ≡ b
-        → cond b (found n t) (when (isDigit c) (when (leb (n * 10 + (c - 48)) m) (more m (n * 10 + (c - 48)) t))) ≡ found v u
+        → cond b (found n t) (onlyIf (isDigit c) (onlyIf (leb (n * 10 + (c - 48)) m) (more m (n * 10 + (c - 48)) t))) ≡ found v u
         → (0 < n * 10 + (c - 48) → n * 10 + (c - 48) ≤ m → more m (n * 10 + (c - 48)) t ≡ found v u
         → (v ≤ m) × (decimal (n * 10 + (c - 48)) ++ t ≡ decimal v ++ (10 ∷ u)))
         → (v ≤ m) × (decimal n ++ (c ∷ t) ≡ decimal v ++ (10 ∷ u))
@@ -96,7 +96,7 @@ number-only m (c ∷ t) u v h = go (eqb c 48) refl h
     alone broken e z h = let z : _≡_ {A = ℕ} 0 1 = cc in absurd (omega arith)
 
     go : (b : Bool) → eqb c 48 ≡ b
-        → cond b (next (key lineEnd t) (λ x. found 0)) (when (isDigit c) (when (leb (c - 48) m) (more m (c - 48) t))) ≡ found v u
+        → cond b (next (key lineEnd t) (λ x. found 0)) (onlyIf (isDigit c) (onlyIf (leb (c - 48) m) (more m (c - 48) t))) ≡ found v u
         → (v ≤ m) × (c ∷ t ≡ numberText v ++ u)
     go true e h = alone (key lineEnd t) refl (eqb-true c 48 e) h
     go false e h =

@@ -14,13 +14,13 @@ use lib.Dec.{eqb}
 use lib.ListN.{length, take, drop, length-append, take-append-drop}
 use lib.Seq.{drop-at}
 use borrow.Author.Tests.{eq-eqb, eqb-true}
-use Rattle.text.specs.Read.{Got, found, broken, when, next, many, key}
+use Rattle.text.specs.Read.{Got, found, broken, onlyIf, next, many, key}
 use Rattle.text.specs.Write.{texts}
 use Rattle.text.specs.Exact.{Exact, All}
 
 -- ---- what was found
 
-pub when-found : {A : Type 0} (b : Bool) (g : Got A) (a : A) (u : List ℕ) → when b g ≡ found a u → (b ≡ true) × (g ≡ found a u)
+pub when-found : {A : Type 0} (b : Bool) (g : Got A) (a : A) (u : List ℕ) → onlyIf b g ≡ found a u → (b ≡ true) × (g ≡ found a u)
 when-found true g a u h = (refl, h)
 when-found false g a u h = let z : _≡_ {A = ℕ} 0 1 = cc in absurd (omega arith)
 
@@ -55,7 +55,7 @@ key-append [] k t = refl
 key-append (c ∷ j) k [] = refl
 key-append (c ∷ j) k (d ∷ t) = go (eqb d c) (key-append j k t)
   where
-    go : (b : Bool) → key (j ++ k) t ≡ next (key j t) (λ x. key k) → when b (key (j ++ k) t) ≡ next (when b (key j t)) (λ x. key k)
+    go : (b : Bool) → key (j ++ k) t ≡ next (key j t) (λ x. key k) → onlyIf b (key (j ++ k) t) ≡ next (onlyIf b (key j t)) (λ x. key k)
     go true ih = ih
     go false ih = refl
 

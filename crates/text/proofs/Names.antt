@@ -11,7 +11,7 @@ use lib.Dec.{eqb}
 use lib.ListN.{length, getD}
 use borrow.Author.Tests.{eqb-true, eqb-false}
 use Rattle.bit.proofs.Tests.{and-true}
-use Rattle.text.specs.Read.{Got, found, broken, when, orElse, lineEnd, key, named, oneOf}
+use Rattle.text.specs.Read.{Got, found, broken, onlyIf, orTry, lineEnd, key, named, oneOf}
 use Rattle.text.specs.Exact.{Exact}
 use Rattle.text.specs.Answers.{lineIn, firstLine}
 use Rattle.text.specs.declared.Line.{Line}
@@ -25,7 +25,7 @@ pub data First (s t : List ℕ) : List (List ℕ) → ℕ → Line → Type 0 wh
   last : {i : ℕ} → First s t [] i Broken
   name : {k : List ℕ} {ks : List (List ℕ)} {i : ℕ} {r o : Line} → r ≡ firstLine (lineIn s (named k i t)) o → First s t ks (suc i) o → First s t (k ∷ ks) i r
 
-line-orElse : (s : List ℕ) (g h : Got ℕ) → lineIn s (orElse g h) ≡ firstLine (lineIn s g) (lineIn s h)
+line-orElse : (s : List ℕ) (g h : Got ℕ) → lineIn s (orTry g h) ≡ firstLine (lineIn s g) (lineIn s h)
 line-orElse s (found v u) h = refl
 line-orElse s broken h = refl
 
@@ -61,7 +61,7 @@ apart-broken [] b t h = false-true h
 apart-broken (x ∷ k) [] t h = false-true h
 apart-broken (x ∷ k) (y ∷ b) t h = go (eqb y x) h (λ q. apart-broken k b t q)
   where
-    go : (e : Bool) → cond e (apart k b) true ≡ true → (apart k b ≡ true → key k (b ++ t) ≡ broken) → when e (key k (b ++ t)) ≡ broken
+    go : (e : Bool) → cond e (apart k b) true ≡ true → (apart k b ≡ true → key k (b ++ t) ≡ broken) → onlyIf e (key k (b ++ t)) ≡ broken
     go true h ih = ih h
     go false h ih = refl
 
@@ -78,7 +78,7 @@ oneOf-accepts (k ∷ ks) i v t d p q = go (eqb v i) refl (λ a b. oneOf-accepts 
   where
     go : (b : Bool) → eqb v i ≡ b
         → (suc i ≤ v → v < suc i + length ks → oneOf ks (suc i) ((getD ks (v - suc i) [] ++ lineEnd) ++ t) ≡ found v t)
-        → orElse (named k i ((getD (k ∷ ks) (v - i) [] ++ lineEnd) ++ t)) (oneOf ks (suc i) ((getD (k ∷ ks) (v - i) [] ++ lineEnd) ++ t)) ≡ found v t
+        → orTry (named k i ((getD (k ∷ ks) (v - i) [] ++ lineEnd) ++ t)) (oneOf ks (suc i) ((getD (k ∷ ks) (v - i) [] ++ lineEnd) ++ t)) ≡ found v t
     go true e ih =
         let q = eqb-true v i e in
         let n : v - i ≡ 0 = omega arith in
@@ -96,7 +96,7 @@ unfolding oneOf named
 oneOf-only [] i v t u h = let z : _≡_ {A = ℕ} 0 1 = cc in absurd (omega arith)
 oneOf-only (k ∷ ks) i v t u h = go (named k i t) refl h (λ q. oneOf-only ks (suc i) v t u q)
   where
-    go : (g : Got ℕ) → named k i t ≡ g → orElse g (oneOf ks (suc i) t) ≡ found v u
+    go : (g : Got ℕ) → named k i t ≡ g → orTry g (oneOf ks (suc i) t) ≡ found v u
         → (oneOf ks (suc i) t ≡ found v u → ((suc i ≤ v) × (v < suc i + length ks)) × (t ≡ (getD ks (v - suc i) [] ++ lineEnd) ++ u))
         → ((i ≤ v) × (v < i + suc (length ks))) × (t ≡ (getD (k ∷ ks) (v - i) [] ++ lineEnd) ++ u)
     go (found w x) e h ih =

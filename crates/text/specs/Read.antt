@@ -13,14 +13,14 @@ pub data Got (A : Type 0) : Type 0 where
   broken : Got A
 
 -- g where the test holds
-abbrev pub when : {A : Type 0} → Bool → Got A → Got A
-when true g = g
-when false g = broken
+abbrev pub onlyIf : {A : Type 0} → Bool → Got A → Got A
+onlyIf true g = g
+onlyIf false g = broken
 
 -- what is read first; where that is broken, the other
-abbrev pub orElse : {A : Type 0} → Got A → Got A → Got A
-orElse (found a t) h = found a t
-orElse broken h = h
+abbrev pub orTry : {A : Type 0} → Got A → Got A → Got A
+orTry (found a t) h = found a t
+orTry broken h = h
 
 -- a reader goes on with the text behind what was read
 abbrev pub next : {A B : Type 0} → Got A → (A → List ℕ → Got B) → Got B
@@ -40,7 +40,7 @@ lineEnd = 10 ∷ []
 unfoldable pub key : List ℕ → List ℕ → Got (Unit {0})
 key [] t = found tt t
 key (k ∷ ks) [] = broken
-key (k ∷ ks) (c ∷ t) = when (eqb c k) (key ks t)
+key (k ∷ ks) (c ∷ t) = onlyIf (eqb c k) (key ks t)
 
 -- the characters 0 to 9
 abbrev pub isDigit : ℕ → Bool
@@ -51,14 +51,14 @@ unfoldable pub more : ℕ → ℕ → List ℕ → Got ℕ
 more m n [] = broken
 more m n (c ∷ t) =
     cond (eqb c 10) (found n t)
-    (when (isDigit c) (when (leb (n * 10 + (c - 48)) m) (more m (n * 10 + (c - 48)) t)))
+    (onlyIf (isDigit c) (onlyIf (leb (n * 10 + (c - 48)) m) (more m (n * 10 + (c - 48)) t)))
 
 -- a decimal number of at most m, no leading zeros (a 0 stands alone), and LF
 unfoldable pub number : ℕ → List ℕ → Got ℕ
 number m [] = broken
 number m (c ∷ t) =
     cond (eqb c 48) (next (key lineEnd t) (λ x. found 0))
-    (when (isDigit c) (when (leb (c - 48) m) (more m (c - 48) t)))
+    (onlyIf (isDigit c) (onlyIf (leb (c - 48) m) (more m (c - 48) t)))
 
 -- a line of a key and a number of at most m
 unfoldable pub numberLine : List ℕ → ℕ → List ℕ → Got ℕ
@@ -71,7 +71,7 @@ named k v t = next (key (k ++ lineEnd) t) (λ x. found v)
 -- one of several names, which stands for its place among them, the first for i; and LF
 unfoldable pub oneOf : List (List ℕ) → ℕ → List ℕ → Got ℕ
 oneOf [] i t = broken
-oneOf (k ∷ ks) i t = orElse (named k i t) (oneOf ks (suc i) t)
+oneOf (k ∷ ks) i t = orTry (named k i t) (oneOf ks (suc i) t)
 
 -- one of the characters 0 1 x z
 unfoldable pub isBit : ℕ → Bool
@@ -83,7 +83,7 @@ ofByte c = cond (eqb c 49) One (cond (eqb c 120) X (cond (eqb c 122) Z Zero))
 
 unfoldable pub bit : List ℕ → Got LogicBit
 bit [] = broken
-bit (c ∷ t) = when (isBit c) (found (ofByte c) t)
+bit (c ∷ t) = onlyIf (isBit c) (found (ofByte c) t)
 
 -- exactly n of 0 1 x z, and LF: a vector of width n. Vectors are written highest bit first, and a vector's list has its lowest bit first
 unfoldable pub bits : ℕ → List ℕ → Got (List LogicBit)

@@ -38,7 +38,7 @@ number-small BadStore = omega arith
 -- the cell c that a step has added to the memory n
 pub record Shown (m n : Memory) (step : Step) (c : ℕ) : Type 0 where
   pub few : c < 320
-  pub narrow : AllThin (n .state .store)
+  pub thin : AllThin (n .state .store)
   pub front : Front (getD (n .state .store .cells) c noCell .header) (n .scratch)
   pub bits : frontBits (getD (n .state .store .cells) c noCell .header .width) (n .scratch) ≡ stepVector (m .state) step .bits
 
@@ -52,7 +52,7 @@ added m n (refused r) k c l e =
 
 pub step-shown : (m n : Memory) (step : Step) (c : ℕ) → length (m .state .store .cells) ≡ 320 → AllThin (m .state .store) → outcome (given c) n ≡ addStep m step
     → Shown m n step c
-step-shown m n step c places narrow e =
+step-shown m n step c places thin e =
     let v = stepVector (m .state) step in
     let d = added m n (checkMemory m step) (m .state .store .count) c (stepped v m) e in
     let a = step-admitted m step places (d .0) in
@@ -63,7 +63,7 @@ step-shown m n step c places narrow e =
     subst (λ (o : Memory). Shown m o step c) (sym (d .2))
     (subst (Shown m (stepped v m) step) (sym (d .1)) (record {
       few = a .few;
-      narrow = thin-put (v .header) (m .state .store) narrow (step-thin (m .state) step narrow);
-      front = subst (λ (h : Header). Front h (stepped v m .scratch)) (sym k) (record { thin = step-thin (m .state) step narrow; value-long = f .value-long; unknown-long = f .unknown-long });
+      thin = thin-put (v .header) (m .state .store) thin (step-thin (m .state) step thin);
+      front = subst (λ (h : Header). Front h (stepped v m .scratch)) (sym k) (record { thin = step-thin (m .state) step thin; value-long = f .value-long; unknown-long = f .unknown-long });
       bits = ap (λ (h : Header). frontBits (h .width) (stepped v m .scratch)) k ∙ ap (λ (r : Vector). r .bits) (f .holds);
     }))

@@ -13,16 +13,17 @@ use Rattle.words.specs.Planes.{Planes}
 use Rattle.output.specs.Output.{cellText, refusedText}
 use Rattle.inputs.specs.Limits.{Thin}
 
--- the lines of a step, behind k steps that were run
+-- the two lines of step k + 1; steps count from 1
 abbrev pub resultText : Answer ℕ → ℕ → List LogicBit → List ℕ
 resultText (given n) k bits = cellText n bits
 resultText (refused n) k bits = refusedText n (suc k)
 
--- planes at whose front a vector with the header h stands, and its bits
+-- planes that have at least the words of a vector with the header h, which is no wider than an input may be
 pub record Front (h : Header) (p : Planes) : Type 0 where
   pub thin : Thin h
   pub value-long : wordCount (h .width) ≤ length (p .value)
   pub unknown-long : wordCount (h .width) ≤ length (p .unknown)
 
+-- the vector of width w at the front of the planes
 abbrev pub frontBits : ℕ → Planes → List LogicBit
 frontBits w p = fromPlanes w (take (wordCount w) (p .value)) (take (wordCount w) (p .unknown))

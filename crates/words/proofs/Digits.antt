@@ -1,7 +1,7 @@
 -- Bits of numbers: the bit of each word operation, and words by their bits.
 --     bit-zero, bit-suc, bit-lt     the lowest bit, the others, and a bit is 0 or 1
 --     bit-and, bit-or, bit-xor, bit-not, bit-shr, bit-shl-low, bit-shl-high     the bit of an operation
---     bit-ones, bit-mod, bit-above, bit-top     a mask, the k low digits, the digits above a bound
+--     bit-ones, bit-mod, bit-above, bit-mod-above     a mask, the k low digits, the digits above a bound
 --     pack-ext, pack-bit, pack-lt, pack-cong    a word is made of its bits
 --     word-ext      two words of n digits that agree at each digit are equal
 use mathlib.Core.Path.{_≡_, refl, sym, ap, ap₂, _∙_, subst}

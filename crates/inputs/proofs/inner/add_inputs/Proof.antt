@@ -138,7 +138,7 @@ returns-2 c =
     let a = l .before .before .before .before .before .args in (
       feed-done (a .t1 .«input_count») (input (a .text .now) (a .t1)) (state emptyStore (lent (a .arena-value .now) (a .arena-unknown .now)))
           (state (l .loop .s) (lent (l .loop .arena-value) (l .loop .arena-unknown))) (l .loop .i) (l .loop .inv .fed) (c .loop-test .left),
-      l .loop .inv .fed .narrow,
+      l .loop .inv .fed .thin,
     )
 
 pub add-inputs-spec : {M : Type 1} → statement M

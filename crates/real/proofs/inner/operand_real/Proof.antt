@@ -2,7 +2,7 @@
 use mathlib.Core.Path.{sym, ap, _∙_, subst}
 use Rattle.words.specs.Planes.{lent}
 use Rattle.value.specs.declared.Operand.{Operand}
-use Rattle.real.specs.Real.{realOf, Whole}
+use Rattle.real.specs.Real.{realOf, WholePlanes}
 use borrow.Author.Needs.{needs}
 use Rattle.real.proofs.inner.operand_real.Statement.{statement}
 use Rattle.real.proofs.inner.operand_real.Tie as tie
@@ -13,7 +13,7 @@ enum-known-o c = search needs
 vector-real-requires : tie.Need-vector-real-requires
 vector-real-requires c κs =
     let s = c .before .before .before .before .before in
-    subst (λ (o : Operand). Whole o (lent (s .args .value .now) (s .args .unknown .now))) (c .before .o .given .1) (s .pre)
+    subst (λ (o : Operand). WholePlanes o (lent (s .args .value .now) (s .args .unknown .now))) (c .before .o .given .1) (s .pre)
 
 enum-known-o-2 : tie.Need-enum-known-o-2
 enum-known-o-2 c = search needs

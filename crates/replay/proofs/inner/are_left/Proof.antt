@@ -1,4 +1,4 @@
--- The words are those that the field was read as.
+-- `replay::inner::are_left`: the words are those that the field was read as.
 use borrow.Author.Needs.{needs}
 use Rattle.replay.proofs.inner.are_left.Statement.{statement}
 use Rattle.replay.proofs.inner.are_left.Tie as tie
@@ -16,7 +16,7 @@ hold-field-requires : tie.Need-hold-field-requires
 hold-field-requires c κs = search needs
 
 returns : tie.Need-returns
-returns c = (_, _, c .before .before .hold-field .ensures)
+returns c = c .before .before .hold-field .ensures
 
 pub are-left-spec : {M : Type 1} → statement M
 are-left-spec = tie.close (tie.spec plain-requires slice-aggregate-hold-field slice-aggregate-hold-field-2 hold-field-requires returns)

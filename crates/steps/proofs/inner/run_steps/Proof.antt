@@ -105,7 +105,7 @@ run-step-requires c κs =
     let p = l .before .before .before .before .before .before .pre .0 in
     let i = l .loop .inv .walked in
     let t = c .before .before .before .before .before .before .loop-test .taken in
-    (i .narrow, (omega (arith, t, p .0), omega (arith, t, p .0, p .1, i .short, i .long)))
+    (i .thin, (omega (arith, t, p .0), omega (arith, t, p .0, p .1, i .short, i .long)))
 
 enum-told : tie.Need-enum-told Inv-loop μ-loop
 enum-told c = search needs
