@@ -1,6 +1,6 @@
 -- Words that are put together from two, cut off at a width, or continued beyond it.
 --     blend                     the digits of one word where a mask has a one, those of another elsewhere
---     extended, inside, beyond  word k of a plane with the digits at or above the width taken from a fill word
+--     extended, beyond          word k of a plane with the digits at or above the width taken from a fill word
 --     cut                       a word masked to the digits below the width
 --     cut-vector                word k of a vector of width w
 --     operand                   word k of a vector that is continued by one bit
@@ -63,9 +63,6 @@ module _ (p : List ℕ) (w k f n : ℕ) (hf : f < 2 ^ 64) (e : n ≡ min 64 (w -
   extended =
       pack-cong 64 _ _
       (λ j h. ap (λ (b : Bool). cond b (bitAt (getD p k 0) j) (bitAt f j)) (ones-digit n j) ∙ continued j h)
-
-  pub inside : getD p k 0 < 2 ^ 64 → n ≡ 64 → getD p k 0 ≡ pack 64 (λ j. getD (planeDigits w p) (k * 64 + j) (bitAt f j))
-  inside hx z = pack-ext 64 (getD p k 0) _ hx (λ j h. plane-bit p k j h ∙ sym (getD-tabulate w (planeBit p) (k * 64 + j) (bitAt f j) (omega arith)))
 
   pub beyond : n ≡ 0 → f ≡ pack 64 (λ j. getD (planeDigits w p) (k * 64 + j) (bitAt f j))
   beyond z = pack-ext 64 f _ hf (λ j h. sym (getD-tabulate-out w (planeBit p) (k * 64 + j) (bitAt f j) (omega arith)))

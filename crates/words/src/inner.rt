@@ -17,12 +17,10 @@ pub fn kept(width: u32, k: usize) -> usize
     let w = width as usize;
     let full = w / 64;
     if k < full {
-        return 64;
+        64
+    } else {
+        if k == full { w % 64 } else { 0 }
     }
-    if k == full {
-        return w % 64;
-    }
-    0
 }
 
 // The n low bits set.
@@ -31,9 +29,10 @@ pub fn ones(n: usize) -> u64
     ensures { λ r. ⌜ r ≡ 2 ^ n - 1 ⌝ }
 {
     if n == 0 {
-        return 0;
+        0
+    } else {
+        0xffff_ffff_ffff_ffff >> (64 - n)
     }
-    0xffff_ffff_ffff_ffff >> (64 - n)
 }
 
 // The bits of `new` where the mask has a one, those of `old` elsewhere.
@@ -74,14 +73,11 @@ fn extended_word(plane: &[u64], width: u32, k: usize, fill: u64) -> u64
     ensures { λ r. ⌜ r ≡ pack 64 (λ j. getD (planeDigits width (now (plane .entry))) (k * 64 + j) (bitAt fill j)) ⌝ }
 {
     let n = kept(width, k);
-    if n == 64 {
-        return plane[k];
-    }
     if n == 0 {
-        return fill;
+        fill
+    } else {
+        blend(fill, ones(n), plane[k])
     }
-    let m = ones(n);
-    blend(fill, m, plane[k])
 }
 
 // Word k of an operand whose bits below `width` are those of the planes, and every further bit is `beyond`.

@@ -16,8 +16,5 @@ pub fn word_count(width: u32) -> usize
     ensures { λ r. ⌜ r ≡ wordCount width ⌝ }
 {
     let w = width as usize;
-    if w == 0 {
-        return 1;
-    }
-    (w - 1) / 64 + 1
+    if w == 0 { 1 } else { (w - 1) / 64 + 1 }
 }

@@ -1,31 +1,12 @@
--- `words::inner::extended_word`: the word is whole below the width, whole above it, or blended.
-use mathlib.Core.Path.{_∙_, ap}
-use Prim.Native.Nat.{ℕ}
-use Rattle.words.proofs.Extend.{extended, inside, beyond}
+-- `words::inner::extended_word`: the word is whole above the width, or blended.
+use mathlib.Core.Path.{_∙_}
+use Rattle.words.proofs.Extend.{extended, beyond}
 use borrow.Author.Needs.{needs}
 use Rattle.words.proofs.inner.extended_word.Statement.{statement}
 use Rattle.words.proofs.inner.extended_word.Tie as tie
 
 kept-requires : tie.Need-kept-requires
 kept-requires c κs = search needs
-
-mul-result : tie.Need-mul-result
-mul-result c = search needs
-
-shared-slice-read-result : tie.Need-shared-slice-read-result
-shared-slice-read-result c = search needs
-
-returns : tie.Need-returns
-returns c =
-    let s = c .before .before .before .before in
-    let a = s .args in
-    inside (a .plane .now) (a .width) (a .k) (a .fill) _ (s .fits .fill .fits) (c .before .before .kept .ensures) (c .shared-slice-known2 .given (a .k) .fits) (c .before .if1 .taken)
-
-returns-2 : tie.Need-returns-2
-returns-2 c =
-    let s = c .before .before .before .before in
-    let a = s .args in
-    beyond (a .plane .now) (a .width) (a .k) (a .fill) _ (s .fits .fill .fits) (c .before .before .kept .ensures) (c .if2 .taken)
 
 ones-requires : tie.Need-ones-requires
 ones-requires c κs = search needs
@@ -39,24 +20,27 @@ shared-slice-read-blend c = search needs
 blend-requires : tie.Need-blend-requires
 blend-requires c κs = search needs
 
-returns-3 : tie.Need-returns-3
-returns-3 c =
-    let s = c .before .before .before .before .before .before .before in
+returns : tie.Need-returns
+returns c =
+    let s = c .before .before .before in
+    let a = s .args in
+    beyond (a .plane .now) (a .width) (a .k) (a .fill) _ (s .fits .fill .fits) (c .before .kept .ensures) (c .if1 .taken)
+
+returns-2 : tie.Need-returns-2
+returns-2 c =
+    let s = c .before .before .before .before .before .before in
     let a = s .args in
     rw (c .before .before .ones .ensures) at (c .blend .ensures)
-    ∙ extended (a .plane .now) (a .width) (a .k) (a .fill) _ (s .fits .fill .fits) (c .before .before .before .before .before .kept .ensures)
+    ∙ extended (a .plane .now) (a .width) (a .k) (a .fill) _ (s .fits .fill .fits) (c .before .before .before .before .kept .ensures)
 
 pub extended-word-spec : {M : Type 1} → statement M
 extended-word-spec =
     tie.close
     (tie.spec
     kept-requires
-    mul-result
-    shared-slice-read-result
-    returns
-    returns-2
     ones-requires
     mul-blend
     shared-slice-read-blend
     blend-requires
-    returns-3)
+    returns
+    returns-2)

@@ -23,4 +23,4 @@ returns-2 c =
     ap (λ (k : ℕ). (2 ^ k - 1) / 2 ^ (64 - n)) (sym e) ∙ ones-shr n (64 - n)
 
 pub ones-spec : {M : Type 1} → statement M
-ones-spec = tie.close (tie.spec returns sub-result shr-result returns-2)
+ones-spec = tie.close (tie.spec sub-result shr-result returns returns-2)
