@@ -1,12 +1,15 @@
 -- How an operand is read beside another: its extent says the bit at each place.
 --     extent-at                         the bit at a place, told by the extent
 --     extent-stretched, extent-plain    the extent by the tests of the code
+--     no-top                            the top bit of a vector that has none is 0
 --     extent-narrow                     it is no wider than the operand
-use mathlib.Core.Path.{_≡_, refl, ap, _∙_}
-use mathlib.Core.Bool.{Bool, true, false, cond}
+use mathlib.Core.Path.{_≡_, refl, sym, ap, ap₂, _∙_}
+use mathlib.Core.Bool.{Bool, true, false, not, _&&_, cond}
 use mathlib.Core.List.{List}
 use Prim.Native.Nat.{ℕ, _≤_}
 use native.Mathlib.Omega.{arith}
+use borrow.Author.Tests.{not-false, eqb-true}
+use lib.Dec.{eqb}
 use lib.ListN.{getD}
 use Rattle.bit.specs.declared.LogicBit.{LogicBit}
 use Rattle.bit.specs.declared.LogicBit.the-variants.{Zero}
@@ -17,7 +20,7 @@ use Rattle.value.specs.declared.Header.{Header}
 use Rattle.extension.specs.declared.Extent.{Extent}
 use Rattle.extension.specs.declared.Operator.{Operator}
 use Rattle.value.specs.Checks.{Vector, vector}
-use Rattle.extension.specs.Extension.{top, stretched, signExtended, extension, operandAt, extentOf}
+use Rattle.extension.specs.Extension.{stretches, extendsByTop, top, stretched, signedFor, extension, operandAt, extentOf}
 
 abbrev pub extentOver : ℕ → LogicBit → Extent
 extentOver w b = record { width = w; beyond = b }
@@ -37,15 +40,38 @@ pub extent-at : (op : Operator) (a b : Header) (v u : List ℕ) (i : ℕ)
     → getD (fromPlanes (extentOf op (vector a (lent v u)) b .width) v u) i (extentOf op (vector a (lent v u)) b .beyond) ≡ operandAt op (vector a (lent v u)) b i
 extent-at op a b v u i = by-cases (stretched op a) (a .width) (at (fromPlanes (a .width) v u) 0) (extension op (vector a (lent v u)) b) v u i
 
-module _ (op : Operator) (a : Vector) (b : Header) where
-  pub extent-stretched : stretched op (a .header) ≡ true → extentOf op a b ≡ record { width = 0; beyond = at (a .bits) 0 }
-  extent-stretched e = ap (λ (s : Bool). extentBy s (a .header .width) (at (a .bits) 0) (extension op a b)) e
+-- whether two operands are extended by their top bits, as the code tests it: by what is told of the operator
+abbrev pub byTop : Bool → Bool → Header → Header → Bool
+byTop s e a b = ((e && a .«is_signed») && b .«is_signed») && not (b .«is_fill» && s)
 
-  pub extent-plain : stretched op (a .header) ≡ false → (s : Bool) → signExtended op (a .header) b ≡ s
-      → extentOf op a b ≡ record { width = a .header .width; beyond = cond s (top (a .bits)) Zero }
-  extent-plain e s h =
-      ap (λ (s : Bool). extentBy s (a .header .width) (at (a .bits) 0) (extension op a b)) e
-      ∙ ap (λ (s : Bool). extentBy false (a .header .width) (at (a .bits) 0) (cond s (top (a .bits)) Zero)) h
+signed-by : (e s g t : Bool) → e && (s && (not g && t)) ≡ ((e && s) && t) && not g
+signed-by false s g t = refl
+signed-by true false g t = refl
+signed-by true true true true = refl
+signed-by true true true false = refl
+signed-by true true false true = refl
+signed-by true true false false = refl
+
+module _ (op : Operator) (a : Vector) (b : Header) (s e : Bool) (hs : s ≡ stretches op) (he : e ≡ extendsByTop op) where
+  pub extent-stretched : a .header .«is_fill» && s ≡ true → extentOf op a b ≡ extentOver 0 (at (a .bits) 0)
+  extent-stretched h =
+      ap (λ (s : Bool). extentBy s (a .header .width) (at (a .bits) 0) (extension op a b)) (ap (λ (s : Bool). a .header .«is_fill» && s) (sym hs) ∙ h)
+
+  pub extent-plain : a .header .«is_fill» && s ≡ false → (z : Bool) → byTop s e (a .header) b ≡ z
+      → extentOf op a b ≡ extentOver (a .header .width) (cond z (top (a .bits)) Zero)
+  extent-plain h z k =
+      let f = ap (λ (s : Bool). a .header .«is_fill» && s) (sym hs) ∙ h in
+      ap (λ (s : Bool). extentBy s (a .header .width) (at (a .bits) 0) (extension op a b)) f
+      ∙ ap (λ (s : Bool). extentOver (a .header .width) (cond s (top (a .bits)) Zero))
+      (ap (λ (f : Bool). extendsByTop op && ((not f && a .header .«is_signed») && signedFor op b)) f
+      ∙ signed-by (extendsByTop op) (a .header .«is_signed») (stretched op b) (b .«is_signed»)
+      ∙ ap₂ (λ (s e : Bool). byTop s e (a .header) b) (sym hs) (sym he)
+      ∙ k)
+
+pub no-top : (z : Bool) (w : ℕ) (v u : List ℕ) → z && not (eqb w 0) ≡ false → cond z (top (fromPlanes w v u)) Zero ≡ Zero
+unfolding tabulate
+no-top true w v u h = ap (λ (n : ℕ). top (fromPlanes n v u)) (eqb-true w 0 (not-false (eqb w 0) h))
+no-top false w v u h = refl
 
 -- an extent is no wider than the operand
 narrow-by : (s : Bool) (w : ℕ) (first beyond : LogicBit) → extentBy s w first beyond .width ≤ w

@@ -38,15 +38,14 @@ pub fn stretches(op: Operator) -> bool
     ensures { λ r. ⌜ r ≡ table.stretches op ⌝ }
 {
     match op {
-        Operator::And => true,
-        Operator::Or => true,
-        Operator::Xor => true,
-        Operator::Merge => false,
-        Operator::Equal => true,
-        Operator::CaseEqual => true,
-        Operator::CasezEqual => true,
-        Operator::CasexEqual => true,
-        Operator::WildcardEqual => false,
+        Operator::And
+        | Operator::Or
+        | Operator::Xor
+        | Operator::Equal
+        | Operator::CaseEqual
+        | Operator::CasezEqual
+        | Operator::CasexEqual => true,
+        Operator::Merge | Operator::WildcardEqual => false,
     }
 }
 
@@ -55,14 +54,11 @@ pub fn extends_by_top(op: Operator) -> bool
     ensures { λ r. ⌜ r ≡ table.extendsByTop op ⌝ }
 {
     match op {
-        Operator::And => false,
-        Operator::Or => false,
-        Operator::Xor => false,
-        Operator::Merge => false,
-        Operator::Equal => true,
-        Operator::CaseEqual => true,
-        Operator::CasezEqual => true,
-        Operator::CasexEqual => true,
-        Operator::WildcardEqual => true,
+        Operator::And | Operator::Or | Operator::Xor | Operator::Merge => false,
+        Operator::Equal
+        | Operator::CaseEqual
+        | Operator::CasezEqual
+        | Operator::CasexEqual
+        | Operator::WildcardEqual => true,
     }
 }
