@@ -50,11 +50,11 @@ module _ (op : Bitwise) (a b : Header) (av au bv bu : List ℕ) (t : Operator) (
       (direct (y .width) bv bu (y .beyond) i (omega arith))
       (omega (arith, left-narrow))
 
-  module _ (N n : ℕ) (out : List ℕ) (hn : n ≡ min (x .width) (y .width) / 64) where
+  module _ (N M n : ℕ) (out : List ℕ) (long : length out ≡ M) (hn : n ≡ min (x .width) (y .width) / 64) where
     pub value-written : Written 0 (λ k. laneWord (opBit op) (wordBy (getD av k 0) (getD au k 0)) (wordBy (getD bv k 0) (getD bu k 0)) .value) N n out
-        → Written 0 (wordOf valueDigit (at (joinedOver op w x (lent av au) y (lent bv bu)))) (length out) n out
-    value-written h = record { long = refl; upto = λ i l. h .upto i l ∙ ap (λ (z : Word). z .value) (direct-word i (rw hn at l)) }
+        → Written 0 (wordOf valueDigit (at (joinedOver op w x (lent av au) y (lent bv bu)))) M n out
+    value-written h = record { long = long; upto = λ i l. h .upto i l ∙ ap (λ (z : Word). z .value) (direct-word i (rw hn at l)) }
 
     pub unknown-written : Written 0 (λ k. laneWord (opBit op) (wordBy (getD av k 0) (getD au k 0)) (wordBy (getD bv k 0) (getD bu k 0)) .unknown) N n out
-        → Written 0 (wordOf unknownDigit (at (joinedOver op w x (lent av au) y (lent bv bu)))) (length out) n out
-    unknown-written h = record { long = refl; upto = λ i l. h .upto i l ∙ ap (λ (z : Word). z .unknown) (direct-word i (rw hn at l)) }
+        → Written 0 (wordOf unknownDigit (at (joinedOver op w x (lent av au) y (lent bv bu)))) M n out
+    unknown-written h = record { long = long; upto = λ i l. h .upto i l ∙ ap (λ (z : Word). z .unknown) (direct-word i (rw hn at l)) }

@@ -1,15 +1,13 @@
 // The work behind the operators: words joined by lanes, straight from the planes where both operands have whole words, and through the
 // reader of extended operands behind those. These ask their caller for accepted operands.
-use extension::Extent;
 use extension::Operator;
 use lanes::Bitwise;
-use lanes::cut_word;
 use lanes::lanes;
-use lanes::not_word;
-use lanes::rest_word;
 use value::Header;
 use words::Word;
+use words::inner::kept;
 use words::inner::least;
+use words::inner::ones;
 use words::inner::operand_word;
 ghost use mathlib.Core.Path.{_≡_};
 ghost use Prim.Native.Nat.{_≤_, max};
@@ -55,67 +53,6 @@ fn join_words(
     }
 }
 
-// The first n words, straight from the planes. Each operator has its call, so that its loop is compiled on its own.
-fn join_whole(
-    op: Bitwise,
-    av: &[u64],
-    au: &[u64],
-    bv: &[u64],
-    bu: &[u64],
-    ov: &mut [u64],
-    ou: &mut [u64],
-    n: usize,
-)
-    requires { ⌜ (n ≤ length (now av)) × (n ≤ length (now au)) ⌝ }
-    requires { ⌜ (n ≤ length (now bv)) × (n ≤ length (now bu)) ⌝ }
-    requires { ⌜ (n ≤ length (now ov)) × (n ≤ length (now ou)) ⌝ }
-    ensures { λ _. ⌜ Written 0 (λ k. laneWord (opBit op) (wordBy (getD (now (av .entry)) k 0) (getD (now (au .entry)) k 0)) (wordBy (getD (now (bv .entry)) k 0) (getD (now (bu .entry)) k 0)) .value) (length (now (ov .entry))) n (now (ov .exit)) ⌝ }
-    ensures { λ _. ⌜ Written 0 (λ k. laneWord (opBit op) (wordBy (getD (now (av .entry)) k 0) (getD (now (au .entry)) k 0)) (wordBy (getD (now (bv .entry)) k 0) (getD (now (bu .entry)) k 0)) .unknown) (length (now (ou .entry))) n (now (ou .exit)) ⌝ }
-{
-    match op {
-        Bitwise::And => join_words(Bitwise::And, av, au, bv, bu, ov, ou, n),
-        Bitwise::Or => join_words(Bitwise::Or, av, au, bv, bu, ov, ou, n),
-        Bitwise::Xor => join_words(Bitwise::Xor, av, au, bv, bu, ov, ou, n),
-        Bitwise::Merge => join_words(Bitwise::Merge, av, au, bv, bu, ov, ou, n),
-    }
-}
-
-// The words from `from` on, through the reader of extended operands.
-fn join_rest(
-    op: Bitwise,
-    a: Extent,
-    av: &[u64],
-    au: &[u64],
-    b: Extent,
-    bv: &[u64],
-    bu: &[u64],
-    width: u32,
-    ov: &mut [u64],
-    ou: &mut [u64],
-    from: usize,
-)
-    requires { ⌜ (wordCount (a .width) ≤ length (now av)) × (wordCount (a .width) ≤ length (now au)) ⌝ }
-    requires { ⌜ (wordCount (b .width) ≤ length (now bv)) × (wordCount (b .width) ≤ length (now bu)) ⌝ }
-    requires { ⌜ (length (now ov) ≡ wordCount width) × (length (now ou) ≡ wordCount width) ⌝ }
-    requires { ⌜ Written 0 (wordOf valueDigit (at (joinedOver op width a (lent (now av) (now au)) b (lent (now bv) (now bu))))) (length (now ov)) from (now ov) ⌝ }
-    requires { ⌜ Written 0 (wordOf unknownDigit (at (joinedOver op width a (lent (now av) (now au)) b (lent (now bv) (now bu))))) (length (now ou)) from (now ou) ⌝ }
-    ensures { λ _. ⌜ lent (now (ov .exit)) (now (ou .exit)) ≡ planesOf (joinedOver op width a (lent (now (av .entry)) (now (au .entry))) b (lent (now (bv .entry)) (now (bu .entry)))) ⌝ }
-{
-    let aw = a.width;
-    let ab = a.beyond;
-    let bw = b.width;
-    let bb = b.beyond;
-    let mut k = from;
-    while k < ov.len() {
-        let x = operand_word(av, au, aw, k, ab);
-        let y = operand_word(bv, bu, bw, k, bb);
-        let r = rest_word(op, x, y, width, k);
-        ov[k] = r.value;
-        ou[k] = r.unknown;
-        k += 1;
-    }
-}
-
 // The row of the tables by which the operands are read.
 fn operator(op: Bitwise) -> Operator
     ensures { λ r. ⌜ r ≡ joined.operator op ⌝ }
@@ -150,11 +87,19 @@ pub fn join_planes(
     let t = operator(op);
     let x = extension::inner::extent(t, a, av, au, b);
     let y = extension::inner::extent(t, b, bv, bu, a);
-    let xw = x.width as usize;
-    let yw = y.width as usize;
-    let n = least(xw, yw) / 64;
-    join_whole(op, av, au, bv, bu, ov, ou, n);
-    join_rest(op, x, av, au, y, bv, bu, width, ov, ou, n);
+    let xb = x.beyond;
+    let yb = y.beyond;
+    let mut k = least(x.width as usize, y.width as usize) / 64;
+    join_words(op, av, au, bv, bu, ov, ou, k);
+    while k < ov.len() {
+        let p = operand_word(av, au, x.width, k, xb);
+        let q = operand_word(bv, bu, y.width, k, yb);
+        let r = lanes(op, p, q);
+        let m = ones(kept(width, k));
+        ov[k] = r.value & m;
+        ou[k] = r.unknown & m;
+        k += 1;
+    }
 }
 
 // Not of a vector: every word, and the last one cut off at the width.
@@ -163,23 +108,13 @@ pub fn not_planes(width: u32, av: &[u64], au: &[u64], ov: &mut [u64], ou: &mut [
     requires { ⌜ (length (now ov) ≡ wordCount width) × (length (now ou) ≡ wordCount width) ⌝ }
     ensures { λ _. ⌜ lent (now (ov .exit)) (now (ou .exit)) ≡ planesOf (inverted (fromPlanes width (now (av .entry)) (now (au .entry)))) ⌝ }
 {
-    let last = ov.len() - 1;
     let mut k = 0;
-    while k < last {
-        let a = Word {
-            value: av[k],
-            unknown: au[k],
-        };
-        let r = not_word(a);
-        ov[k] = r.value;
-        ou[k] = r.unknown;
+    while k < ov.len() {
+        let u = au[k];
+        ov[k] = !(av[k] | u);
+        ou[k] = u;
         k += 1;
     }
-    let a = Word {
-        value: av[last],
-        unknown: au[last],
-    };
-    let r = cut_word(width, last, not_word(a));
-    ov[last] = r.value;
-    ou[last] = r.unknown;
+    let last = k - 1;
+    ov[last] = ov[last] & ones(kept(width, last));
 }

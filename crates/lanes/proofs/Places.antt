@@ -1,5 +1,6 @@
 -- Words joined by lanes.
 --     both, one        lane formulas that pass the computed test give the rule's word
+--     not-word         those of not
 --     whole-word       the lanes of two words that hold an operand's bits are a word of the result
 --     rest-word        the same for any word, cut off at the width
 --     one-whole, one-cut     the same for a rule of one operand
@@ -7,19 +8,29 @@ use mathlib.Core.Path.{_≡_, refl, sym, ap, ap₂, _∙_}
 use mathlib.Core.List.{List}
 use Prim.Native.Nat.{ℕ, _+_, _-_, _*_, _^_, _≤_, _<_, min}
 use native.Mathlib.Omega.{arith}
+use lib.Bits.{bitAnd}
 use lib.Dec.{T}
 use lib.ListN.{getD}
 use lib.Pow.{pow-pos}
 use Rattle.bit.specs.declared.LogicBit.{LogicBit}
 use Rattle.bit.specs.declared.LogicBit.the-variants.{Zero}
+use Rattle.bit.specs.Rules.{notBit}
 use Rattle.words.specs.declared.Word.{Word}
 use Rattle.words.specs.Vector.{at, tabulate, Written}
-use Rattle.words.specs.Planes.{valueDigit, unknownDigit, stored, planeBit, fromPlanes, wordOf, wordAt, bitOf, wordBy}
+use Rattle.words.specs.Planes.{valueDigit, unknownDigit, stored, planeBit, fromPlanes, wordOf, wordAt, packed, bitOf, wordBy}
 use Rattle.words.proofs.Digits.{pack-cong}
 use Rattle.words.proofs.Planes.{getD-tabulate, plane-bit, value-digit-lt, unknown-digit-lt}
 use Rattle.words.proofs.Lanes.{Lane, word, gives, lane}
 use Rattle.words.proofs.Extend.{word-bit, cut-vector}
-use Rattle.lanes.specs.Lanes.{laneWord, laneOne, cutWord}
+use Rattle.lanes.specs.Lanes.{laneWord}
+
+-- a rule at each place of one word
+unfoldable pub laneOne : (LogicBit → LogicBit) → Word → Word
+laneOne f a = packed (λ j. f (bitOf a j))
+
+-- word k of a plane of width w, whose bits at or above the width are 0, from a word with any bits there
+unfoldable pub cutWord : ℕ → ℕ → Word → Word
+cutWord w k x = record { value = bitAnd (x .value) (2 ^ min 64 (w - k * 64) - 1); unknown = bitAnd (x .unknown) (2 ^ min 64 (w - k * 64) - 1) }
 
 pub both : (f : LogicBit → LogicBit → LogicBit) (v u : Lane) → T (gives v (λ a b. valueDigit (f a b))) → T (gives u (λ a b. unknownDigit (f a b)))
     → (a b : Word) → a .value < 2 ^ 64 → a .unknown < 2 ^ 64 → b .value < 2 ^ 64 → b .unknown < 2 ^ 64
@@ -38,6 +49,11 @@ one f v u tv tu a hp hq =
     ap₂ wordBy
     (lane (a .value) (a .unknown) 0 0 hp hq (pow-pos 64) (pow-pos 64) v (λ x y. valueDigit (f x)) tv)
     (lane (a .value) (a .unknown) 0 0 hp hq (pow-pos 64) (pow-pos 64) u (λ x y. unknownDigit (f x)) tu)
+
+-- not of a word: 1 where neither bit is set, x where it is unknown
+pub not-word : (a : Word) → a .value < 2 ^ 64 → a .unknown < 2 ^ 64
+    → wordBy (word (Lane.neg (Lane.or Lane.av Lane.au)) (a .value) (a .unknown) 0 0) (a .unknown) ≡ laneOne notBit a
+not-word = one notBit (Lane.neg (Lane.or Lane.av Lane.au)) Lane.au tt tt
 
 -- the rule on two words that hold word k of f and of g is word k of the joined bits
 pub joined-word : (r : LogicBit → LogicBit → LogicBit) (f g : ℕ → LogicBit) (k : ℕ) (a b : Word)
@@ -86,7 +102,7 @@ module _ (r : LogicBit → LogicBit → LogicBit) (f g : ℕ → LogicBit) (w k 
 
 -- a rule of one operand, word by word
 module _ (r : LogicBit → LogicBit) (f : ℕ → LogicBit) (w k : ℕ) (a : Word) (ha : (j : ℕ) → j < 64 → bitOf a j ≡ f (k * 64 + j)) where
-  one-word : laneOne r a ≡ wordAt (λ i. r (f i)) k
+  pub one-word : laneOne r a ≡ wordAt (λ i. r (f i)) k
   unfolding laneOne
   one-word = ap₂ wordBy (pack-cong 64 _ _ (λ j l. ap valueDigit (ap r (ha j l)))) (pack-cong 64 _ _ (λ j l. ap unknownDigit (ap r (ha j l))))
 

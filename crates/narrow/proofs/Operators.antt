@@ -24,8 +24,9 @@ use Rattle.value.specs.Constructors.{plain}
 use Rattle.extension.specs.Extension.{stretched, signedFor, extendsByTop, top, operandAt}
 use Rattle.lanes.specs.declared.Bitwise.{Bitwise}
 use Rattle.lanes.specs.declared.Bitwise.the-variants.{And, Or, Xor, Merge}
-use Rattle.lanes.specs.Lanes.{opBit, laneWord, laneOne, cutWord}
+use Rattle.lanes.specs.Lanes.{opBit, laneWord}
 use Rattle.lanes.proofs.Places as lanes
+use Rattle.lanes.proofs.Places.{laneOne, cutWord}
 use Rattle.join.specs.Joined.{operator, joined, inverted}
 use Rattle.narrow.specs.Narrow.{single, plain64}
 use Rattle.narrow.proofs.Singles.{whole, at-most, placeOf, place, one-word}
@@ -108,15 +109,17 @@ module _ (w : ℕ) (x : Word) where
       (λ i l. getD-tabulate (min 64 w) invertedAt i Zero (rw length-tabulate at l)
       ∙ ap notBit (sym (getD-tabulate (min 64 w) (placeOf x) i Zero (rw length-tabulate at l))))
 
-  cut-narrow : (y : Word) → cutWord w 0 y ≡ cutWord (min 64 w) 0 y
+  cut-narrow : (y : Word) → wordBy (bitAnd (y .value) (2 ^ min 64 w - 1)) (bitAnd (y .unknown) (2 ^ min 64 w - 1)) ≡ cutWord (min 64 w) 0 y
   unfolding cutWord
   cut-narrow y =
-      let e : min 64 (w - 0 * 64) ≡ min 64 (min 64 w - 0 * 64) = omega arith in
+      let e : min 64 w ≡ min 64 (min 64 w - 0 * 64) = omega arith in
       ap (λ (n : ℕ). wordBy (bitAnd (y .value) (2 ^ n - 1)) (bitAnd (y .unknown) (2 ^ n - 1))) e
 
-  pub inverted-word : single (cutWord w 0 (laneOne notBit x)) ≡ planesOf (inverted (vectorOf (min 64 w) (single x)))
-  inverted-word =
-      one-word (min 64 w) invertedAt (cutWord w 0 (laneOne notBit x)) (omega arith)
+  pub inverted-word : (y : Word) → y ≡ laneOne notBit x → (m : ℕ) → m ≡ 2 ^ min 64 w - 1
+      → single (wordBy (bitAnd (y .value) m) (bitAnd (y .unknown) m)) ≡ planesOf (inverted (vectorOf (min 64 w) (single x)))
+  inverted-word y e m h =
+      ap₂ (λ (y : Word) (m : ℕ). single (wordBy (bitAnd (y .value) m) (bitAnd (y .unknown) m))) e h
+      ∙ one-word (min 64 w) invertedAt _ (omega arith)
       (cut-narrow (laneOne notBit x)
       ∙ lanes.one-cut notBit (placeOf x) (min 64 w) 0 x (place x))
       ∙ ap planesOf seen

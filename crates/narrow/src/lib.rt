@@ -26,7 +26,13 @@ pub fn join(op: Bitwise, a: Word, b: Word) -> Word
 pub fn not(width: u32, a: Word) -> Word
     ensures { λ r. ⌜ single r ≡ planesOf (inverted (vectorOf (min 64 width) (single a))) ⌝ }
 {
-    lanes::cut_word(width, 0, lanes::not_word(a))
+    let v = a.value;
+    let u = a.unknown;
+    let m = ones(least(64, width as usize));
+    Word {
+        value: !(v | u) & m,
+        unknown: u & m,
+    }
 }
 
 // Of the bits below the width, which counts as 64 where it is larger: 0 on any known 0, else x on any unknown bit, else 1.

@@ -1,22 +1,22 @@
 -- `narrow::not`: the lanes of one word, cut off at the width.
-use mathlib.Core.Path.{ap, _∙_}
-use Rattle.lanes.specs.Lanes.{cutWord}
-use Rattle.narrow.specs.Narrow.{single}
+use mathlib.Core.Path.{_≡_, ap, _∙_}
+use Prim.Native.Nat.{ℕ, _-_, _^_}
+use Rattle.lanes.proofs.Places.{not-word}
 use Rattle.narrow.proofs.Operators.{inverted-word}
 use borrow.Author.Needs.{needs}
 use Rattle.narrow.proofs.not.Statement.{statement}
 use Rattle.narrow.proofs.not.Tie as tie
 
-not-word-requires : tie.Need-not-word-requires
-not-word-requires c κs = search needs
+least-requires : tie.Need-least-requires
+least-requires c κs = search needs
 
-cut-word-requires : tie.Need-cut-word-requires
-cut-word-requires c κs = search needs
+ones-requires : tie.Need-ones-requires
+ones-requires c κs = search needs
 
 returns : tie.Need-returns
 returns c =
     let a = c .before .before .args in
-    ap single (c .cut-word .ensures ∙ ap (cutWord (a .width) 0) (c .before .not-word .ensures)) ∙ inverted-word (a .width) (a .a)
+    inverted-word (a .width) (a .a) _ (not-word (a .a) (search needs) (search needs)) _ (c .ones .ensures ∙ ap (λ (n : ℕ). 2 ^ n - 1) (c .before .least .ensures))
 
 pub not-spec : {M : Type 1} → statement M
-not-spec = tie.close (tie.spec not-word-requires cut-word-requires returns)
+not-spec = tie.close (tie.spec least-requires ones-requires returns)

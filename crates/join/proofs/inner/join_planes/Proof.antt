@@ -1,34 +1,52 @@
--- `join::inner::join_planes`: whole words straight from the planes, then the rest.
-use Rattle.join.proofs.Operands.{left-narrow, right-narrow, same-bits, value-written, unknown-written}
-use mathlib.Core.Path.{_≡_, refl, sym, ap, _∙_}
-use Prim.Native.Nat.{ℕ, _<_, _≤_, _/_, min}
+-- `join::inner::join_planes`: whole words straight from the planes; behind them the words below k are those of the result.
+use mathlib.Core.Path.{_≡_, refl, sym, ap, ap₂, _∙_}
+use Prim.Native.Nat.{ℕ, _-_, _/_, _^_, _≤_}
 use native.Mathlib.Omega.{arith}
-use lib.ListN.{length}
-use Rattle.words.specs.Planes.{planesOf}
+use lib.Bits.{bitAnd}
+use lib.ListN.{length, getD}
+use Rattle.bit.specs.declared.LogicBit.{LogicBit}
+use Rattle.words.specs.declared.Word.{Word}
+use Rattle.words.specs.Vector.{at, Written}
+use Rattle.words.specs.Planes.{valueDigit, unknownDigit, wordCount, fromPlanes, wordOf, lent, planesOf, wordBy}
+use Rattle.words.proofs.Planes.{length-tabulate}
+use Rattle.words.proofs.Fill.{more, plane-done}
+use Rattle.lanes.specs.Lanes.{opBit}
+use Rattle.lanes.proofs.Places.{cutWord, rest-word}
+use Rattle.join.specs.Joined.{joinedOver}
+use Rattle.join.proofs.Operands.{left-narrow, right-narrow, same-bits, value-written, unknown-written}
 use borrow.Author.Needs.{needs}
 use Rattle.join.proofs.inner.join_planes.Statement.{statement}
 use Rattle.join.proofs.inner.join_planes.Tie as tie
 
-operator-requires : tie.Need-operator-requires
+abbrev Inv-loop : tie.InvT-loop
+Inv-loop op av au bv bu width ov₀ ou₀ x y xb yb k₀ ov ou k =
+    Written 0 (wordOf valueDigit (at (joinedOver op width x (lent av au) y (lent bv bu)))) (wordCount width) k ov
+    × Written 0 (wordOf unknownDigit (at (joinedOver op width x (lent av au) y (lent bv bu)))) (wordCount width) k ou
+    × (wordCount width ≤ 67108864)
+
+abbrev μ-loop : tie.MeasureT-loop
+μ-loop op av au bv bu width ov₀ ou₀ x y xb yb k₀ ov ou k = wordCount width - k
+
+operator-requires : tie.Need-operator-requires Inv-loop μ-loop
 operator-requires c κs = search needs
 
-extent-requires : tie.Need-extent-requires
+extent-requires : tie.Need-extent-requires Inv-loop μ-loop
 extent-requires c κs = search needs
 
-extent-requires-2 : tie.Need-extent-requires-2
+extent-requires-2 : tie.Need-extent-requires-2 Inv-loop μ-loop
 extent-requires-2 c κs = search needs
 
-cast-xw : tie.Need-cast-xw
-cast-xw c = search needs
+cast-least : tie.Need-cast-least Inv-loop μ-loop
+cast-least c = search needs
 
-cast-yw : tie.Need-cast-yw
-cast-yw c = search needs
+cast-least-2 : tie.Need-cast-least-2 Inv-loop μ-loop
+cast-least-2 c = search needs
 
-least-requires : tie.Need-least-requires
+least-requires : tie.Need-least-requires Inv-loop μ-loop
 least-requires c κs = search needs
 
-join-whole-requires : tie.Need-join-whole-requires
-join-whole-requires c κs =
+join-words-requires : tie.Need-join-words-requires Inv-loop μ-loop
+join-words-requires c κs =
     let m = c .before .before in
     let y = m .before .before .before in
     let x = y .before in
@@ -50,9 +68,9 @@ join-whole-requires c κs =
       ),
     )
 
-join-rest-requires : tie.Need-join-rest-requires
-join-rest-requires c κs =
-    let g = c .before .before .before .before .before .before in
+loop-holds : tie.Need-loop-holds Inv-loop μ-loop
+loop-holds c =
+    let g = c .before .before .before .before in
     let m = g .before .before .before in
     let y = m .before .before .before in
     let x = y .before in
@@ -64,31 +82,16 @@ join-rest-requires c κs =
     let bv = a .bv .now in
     let bu = a .bu .now in
     let w = s .pre .1 .1 .0 in
-    let ln : x .extent .result .width ≤ a .a .width = left-narrow (a .op) (a .a) (a .b) av au bv bu _ (o .operator .ensures) _ _ (x .extent .ensures) (y .extent2 .ensures) _ w in
-    let rn : y .extent2 .result .width ≤ a .b .width = right-narrow (a .op) (a .a) (a .b) av au bv bu _ (o .operator .ensures) _ _ (x .extent .ensures) (y .extent2 .ensures) _ w in
     let n = ap (λ (k : ℕ). k / 64) (m .least .ensures) in
-    let h = g .join-whole .ensures in (
-      (omega (arith, s .pre .0 .0 .count), omega (arith, s .pre .0 .1 .count)),
-      (
-        (omega (arith, s .pre .1 .0 .0 .count), omega (arith, s .pre .1 .0 .1 .count)),
-        (
-          (h .0 .long ∙ s .pre .1 .1 .1 .0, h .1 .long ∙ s .pre .1 .1 .1 .1),
-          (value-written (a .op) (a .a) (a .b) av au bv bu _ (o .operator .ensures) _ _ (x .extent .ensures) (y .extent2 .ensures) _ w _ _ _ n (h .0), unknown-written (a .op) (a .a) (a .b) av au bv bu _ (o .operator .ensures) _ _ (x .extent .ensures) (y .extent2 .ensures) _ w _ _ _ n (h .1)),
-        ),
-      ),
+    let h = g .join-words .ensures in (
+      value-written (a .op) (a .a) (a .b) av au bv bu _ (o .operator .ensures) _ _ (x .extent .ensures) (y .extent2 .ensures) _ w _ _ _ _ (h .0 .long ∙ s .pre .1 .1 .1 .0) n (h .0),
+      unknown-written (a .op) (a .a) (a .b) av au bv bu _ (o .operator .ensures) _ _ (x .extent .ensures) (y .extent2 .ensures) _ w _ _ _ _ (h .1 .long ∙ s .pre .1 .1 .1 .1) n (h .1),
+      omega (arith, s .fits .width),
     )
 
-same-length : tie.Need-same-length
-same-length c = search needs
-
-same-length-2 : tie.Need-same-length-2
-same-length-2 c = search needs
-
-returns : tie.Need-returns
-returns c =
-    let g = c .before .before .before .before in
-    let k = g .before .before .before .before .before .before .before in
-    let m = k .before .before .before in
+operand-word-requires : tie.Need-operand-word-requires Inv-loop μ-loop
+operand-word-requires c κs =
+    let m = c .before .before .before .before .before .before .before .before .before in
     let y = m .before .before .before in
     let x = y .before in
     let o = x .before in
@@ -100,22 +103,138 @@ returns c =
     let bu = a .bu .now in
     let w = s .pre .1 .1 .0 in
     let ln : x .extent .result .width ≤ a .a .width = left-narrow (a .op) (a .a) (a .b) av au bv bu _ (o .operator .ensures) _ _ (x .extent .ensures) (y .extent2 .ensures) _ w in
+    (omega (arith, s .pre .0 .0 .count), omega (arith, s .pre .0 .1 .count))
+
+operand-word-requires-2 : tie.Need-operand-word-requires-2 Inv-loop μ-loop
+operand-word-requires-2 c κs =
+    let m = c .before .before .before .before .before .before .before .before .before .before in
+    let y = m .before .before .before in
+    let x = y .before in
+    let o = x .before in
+    let s = o .before .before .before .before .before .before .before in
+    let a = s .args in
+    let av = a .av .now in
+    let au = a .au .now in
+    let bv = a .bv .now in
+    let bu = a .bu .now in
+    let w = s .pre .1 .1 .0 in
     let rn : y .extent2 .result .width ≤ a .b .width = right-narrow (a .op) (a .a) (a .b) av au bv bu _ (o .operator .ensures) _ _ (x .extent .ensures) (y .extent2 .ensures) _ w in
-    g .join-rest .ensures
+    (omega (arith, s .pre .1 .0 .0 .count), omega (arith, s .pre .1 .0 .1 .count))
+
+lanes-requires : tie.Need-lanes-requires Inv-loop μ-loop
+lanes-requires c κs = search needs
+
+kept-requires : tie.Need-kept-requires Inv-loop μ-loop
+kept-requires c κs = search needs
+
+ones-requires : tie.Need-ones-requires Inv-loop μ-loop
+ones-requires c κs = search needs
+
+mul-ov : tie.Need-mul-ov Inv-loop μ-loop
+mul-ov c = search needs
+
+slice-write-ov : tie.Need-slice-write-ov Inv-loop μ-loop
+slice-write-ov c = search needs
+
+mul-ou : tie.Need-mul-ou Inv-loop μ-loop
+mul-ou c = search needs
+
+slice-write-ou : tie.Need-slice-write-ou Inv-loop μ-loop
+slice-write-ou c = search needs
+
+add-k : tie.Need-add-k Inv-loop μ-loop
+add-k c = search needs
+
+loop-less : tie.Need-loop-less Inv-loop μ-loop
+loop-less c = search needs
+
+loop-again : tie.Need-loop-again Inv-loop μ-loop
+unfolding cutWord
+loop-again c =
+    let n = c .before .before in
+    let r = n .before .before in
+    let q = r .before in
+    let p = q .before in
+    let l = p .before .before in
+    let m = l .before .before .before .before .before .before .before .before in
+    let y = m .before .before .before in
+    let x = y .before in
+    let o = x .before in
+    let s = o .before .before .before .before .before .before .before in
+    let a = s .args in
+    let av = a .av .now in
+    let au = a .au .now in
+    let bv = a .bv .now in
+    let bu = a .bu .now in
+    let w = s .pre .1 .1 .0 in
+    let f : ℕ → LogicBit = λ i. getD (fromPlanes (x .extent .result .width) av au) i (x .extent .result .beyond) in
+    let g : ℕ → LogicBit = λ i. getD (fromPlanes (y .extent2 .result .width) bv bu) i (y .extent2 .result .beyond) in
+    let e =
+    ap₂ (λ (z : Word) (m : ℕ). wordBy (bitAnd (z .value) m) (bitAnd (z .unknown) m)) (r .lanes .ensures) (n .ones .ensures ∙ ap (λ (i : ℕ). 2 ^ i - 1) (n .before .kept .ensures))
+    ∙ rest-word (opBit (a .op)) f g (a .width) (l .loop .k) (p .operand-word .result) (q .operand-word2 .result) (p .operand-word .ensures) (q .operand-word2 .ensures) in (
+      more (l .loop .inv .0) (omega (arith, l .loop .inv .0 .long)) (ap (λ (z : Word). z .value) e),
+      more (l .loop .inv .1) (omega (arith, l .loop .inv .0 .long)) (ap (λ (z : Word). z .unknown) e),
+      l .loop .inv .2,
+    )
+
+same-length : tie.Need-same-length Inv-loop μ-loop
+same-length c =
+    let l = c .before in
+    let o = l .before .before .before .before .before .before .before .before .before .before .before .before .before in
+    l .loop .inv .0 .long ∙ sym (o .before .before .before .before .before .before .before .pre .1 .1 .1 .0)
+
+same-length-2 : tie.Need-same-length-2 Inv-loop μ-loop
+same-length-2 c =
+    let l = c .before in
+    let o = l .before .before .before .before .before .before .before .before .before .before .before .before .before in
+    l .loop .inv .1 .long ∙ sym (o .before .before .before .before .before .before .before .pre .1 .1 .1 .1)
+
+returns : tie.Need-returns Inv-loop μ-loop
+returns c =
+    let l = c .before in
+    let m = l .before .before .before .before .before .before .before .before in
+    let y = m .before .before .before in
+    let x = y .before in
+    let o = x .before in
+    let s = o .before .before .before .before .before .before .before in
+    let a = s .args in
+    let av = a .av .now in
+    let au = a .au .now in
+    let bv = a .bv .now in
+    let bu = a .bu .now in
+    let w = s .pre .1 .1 .0 in
+    let R = joinedOver (a .op) (a .width) (x .extent .result) (lent av au) (y .extent2 .result) (lent bv bu) in
+    let e = ap wordCount (sym (length-tabulate (a .width) _)) in
+    let h = l .loop .inv in
+    ap₂ lent (plane-done valueDigit R _ _ _ (h .0) (omega (arith, h .0 .long)) e) (plane-done unknownDigit R _ _ _ (h .1) (omega (arith, h .0 .long)) e)
     ∙ ap planesOf (same-bits (a .op) (a .a) (a .b) av au bv bu _ (o .operator .ensures) _ _ (x .extent .ensures) (y .extent2 .ensures) _ w)
 
 pub join-planes-spec : {M : Type 1} → statement M
 join-planes-spec =
     tie.close
     (tie.spec
+    Inv-loop
+    μ-loop
     operator-requires
     extent-requires
     extent-requires-2
-    cast-xw
-    cast-yw
+    cast-least
+    cast-least-2
     least-requires
-    join-whole-requires
-    join-rest-requires
+    join-words-requires
+    loop-holds
+    operand-word-requires
+    operand-word-requires-2
+    lanes-requires
+    kept-requires
+    ones-requires
+    mul-ov
+    slice-write-ov
+    mul-ou
+    slice-write-ou
+    add-k
+    loop-less
+    loop-again
     same-length
     same-length-2
     returns)

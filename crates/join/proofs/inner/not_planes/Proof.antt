@@ -1,58 +1,70 @@
--- `join::inner::not_planes`: the words below k are those of the result; the last one is cut off at the width.
+-- `join::inner::not_planes`: the words below k are inverted; at the end the last one is cut off at the width.
 use mathlib.Core.Path.{_≡_, refl, sym, ap, ap₂, _∙_}
+use mathlib.Core.Logic.{⊎-elim}
 use mathlib.Core.List.{List}
-use Prim.Native.Nat.{ℕ, _≤_, _-_}
+use Prim.Native.Nat.{ℕ, _+_, _-_, _*_, _^_, _≤_, _<_}
 use native.Mathlib.Omega.{arith}
+use lib.Bits.{bitAnd}
 use lib.ListN.{length, getD}
 use Rattle.bit.specs.declared.LogicBit.{LogicBit}
+use Rattle.bit.specs.declared.LogicBit.the-variants.{Zero}
 use Rattle.bit.specs.Rules.{notBit}
 use Rattle.words.specs.declared.Word.{Word}
 use Rattle.words.specs.Vector.{at, tabulate, Written}
-use Rattle.words.specs.Planes.{valueDigit, unknownDigit, wordCount, fromPlanes, wordOf, lent, planesOf, wordBy}
-use Rattle.words.proofs.Planes.{length-tabulate, operand}
+use Rattle.words.specs.Planes.{valueDigit, unknownDigit, wordCount, fromPlanes, wordOf, lent, planesOf, bitOf, wordBy}
+use Rattle.words.proofs.Digits.{pack-cong, lt-or-ge}
+use Rattle.words.proofs.Planes.{length-tabulate, getD-tabulate, getD-tabulate-out, operand}
 use Rattle.words.proofs.Fill.{start, more, plane-done}
-use Rattle.lanes.specs.Lanes.{cutWord}
-use Rattle.lanes.proofs.Places.{one-whole, one-cut}
+use Rattle.lanes.proofs.Places.{laneOne, cutWord, not-word, one-word, one-whole, one-cut, fewer}
 use borrow.Author.Needs.{needs}
 use Rattle.join.proofs.inner.not_planes.Statement.{statement}
 use Rattle.join.proofs.inner.not_planes.Tie as tie
+
+-- word k of an operand, inverted
+abbrev inverts : List ℕ → List ℕ → ℕ → Word
+inverts v u k = laneOne notBit (wordBy (getD v k 0) (getD u k 0))
 
 -- the result, at its width
 abbrev result : ℕ → List ℕ → List ℕ → List LogicBit
 result w v u = tabulate w (λ i. notBit (at (fromPlanes w v u) i))
 
+-- the unknown bits of a word need not be cut off
+unknown-kept : (w : ℕ) (v u : List ℕ) (k : ℕ)
+    → wordOf unknownDigit (λ i. notBit (at (fromPlanes w v u) i)) k ≡ wordOf unknownDigit (at (result w v u)) k
+unknown-kept w v u k =
+    pack-cong 64 _ _
+    (λ j _. ⊎-elim
+    (λ l. ap unknownDigit (sym (getD-tabulate w (λ i. notBit (at (fromPlanes w v u) i)) (k * 64 + j) Zero l)))
+    (λ l. ap (λ (b : LogicBit). unknownDigit (notBit b)) (getD-tabulate-out w _ (k * 64 + j) Zero l)
+    ∙ ap unknownDigit (sym (getD-tabulate-out w (λ i. notBit (at (fromPlanes w v u) i)) (k * 64 + j) Zero l)))
+    (lt-or-ge (k * 64 + j) w))
+
 abbrev Inv-loop : tie.InvT-loop
-Inv-loop width av au ov₀ ou₀ last k₀ ov ou k =
-    (k ≤ last)
-    × Written 0 (wordOf valueDigit (at (result width av au))) (length ov₀) k ov
+Inv-loop width av au ov₀ ou₀ k₀ ov ou k =
+    (k ≤ length ov₀)
+    × Written 0 (λ i. inverts av au i .value) (length ov₀) k ov
     × Written 0 (wordOf unknownDigit (at (result width av au))) (length ou₀) k ou
 
 abbrev μ-loop : tie.MeasureT-loop
-μ-loop width av au ov₀ ou₀ last k₀ ov ou k = last - k
-
-sub-last : tie.Need-sub-last Inv-loop μ-loop
-sub-last c = search needs
+μ-loop width av au ov₀ ou₀ k₀ ov ou k = length ov₀ - k
 
 loop-holds : tie.Need-loop-holds Inv-loop μ-loop
 loop-holds c = (omega arith, start refl, start refl)
 
-mul-t14 : tie.Need-mul-t14 Inv-loop μ-loop
-mul-t14 c = search needs
+mul-u : tie.Need-mul-u Inv-loop μ-loop
+mul-u c = search needs
 
-shared-slice-read-t16 : tie.Need-shared-slice-read-t16 Inv-loop μ-loop
-shared-slice-read-t16 c = search needs
-
-mul-t17 : tie.Need-mul-t17 Inv-loop μ-loop
-mul-t17 c = search needs
-
-shared-slice-read-t19 : tie.Need-shared-slice-read-t19 Inv-loop μ-loop
-shared-slice-read-t19 c = search needs
-
-not-word-requires : tie.Need-not-word-requires Inv-loop μ-loop
-not-word-requires c κs = search needs
+shared-slice-read-u : tie.Need-shared-slice-read-u Inv-loop μ-loop
+shared-slice-read-u c = search needs
 
 mul-ov : tie.Need-mul-ov Inv-loop μ-loop
 mul-ov c = search needs
+
+shared-slice-read-ov : tie.Need-shared-slice-read-ov Inv-loop μ-loop
+shared-slice-read-ov c = search needs
+
+mul-ov-2 : tie.Need-mul-ov-2 Inv-loop μ-loop
+mul-ov-2 c = search needs
 
 slice-write-ov : tie.Need-slice-write-ov Inv-loop μ-loop
 slice-write-ov c = search needs
@@ -71,46 +83,40 @@ loop-less c = search needs
 
 loop-again : tie.Need-loop-again Inv-loop μ-loop
 loop-again c =
-    let l = c .before .before .before .before in
-    let s = l .before .before .before .before .before in
+    let l = c .before .before .before in
+    let t = l .before .before .before in
+    let s = t .before .before in
     let a = s .args in
     let v = a .av .now in
     let u = a .au .now in
-    let e = c .not-word .ensures ∙ one-whole notBit (at (fromPlanes (a .width) v u)) (a .width) (l .loop .k) (wordBy (getD v (l .loop .k) 0) (getD u (l .loop .k) 0)) (operand (a .width) v u (s .pre .0 .0) (s .pre .0 .1) (l .loop .k)) (omega (arith, s .pre .1 .0)) in (
+    let k = l .loop .k in
+    let e = not-word (wordBy (getD v k 0) (getD u k 0)) (t .before .shared-slice-known .given k .fits) (t .shared-slice-known2 .given k .fits) in
+    let f = one-word notBit (at (fromPlanes (a .width) v u)) (a .width) k (wordBy (getD v k 0) (getD u k 0)) (operand (a .width) v u (s .pre .0 .0) (s .pre .0 .1) k) in (
       omega arith,
-      more (l .loop .inv .1) (omega (arith, s .pre .1 .0)) (ap (λ (w : Word). w .value) e),
-      more (l .loop .inv .2) (omega (arith, s .pre .1 .0, s .pre .1 .1)) (ap (λ (w : Word). w .unknown) e),
+      more (l .loop .inv .1) (omega arith) (ap (λ (w : Word). w .value) e),
+      more (l .loop .inv .2) (omega (arith, s .pre .1 .0, s .pre .1 .1)) (ap (λ (w : Word). w .unknown) (e ∙ f) ∙ unknown-kept (a .width) v u k),
     )
 
-mul-t12 : tie.Need-mul-t12 Inv-loop μ-loop
-mul-t12 c = search needs
+sub-last : tie.Need-sub-last Inv-loop μ-loop
+sub-last c = search needs
 
-shared-slice-read-t23 : tie.Need-shared-slice-read-t23 Inv-loop μ-loop
-shared-slice-read-t23 c = search needs
+mul-ov-3 : tie.Need-mul-ov-3 Inv-loop μ-loop
+mul-ov-3 c = search needs
 
-mul-t24 : tie.Need-mul-t24 Inv-loop μ-loop
-mul-t24 c = search needs
+slice-read-ov : tie.Need-slice-read-ov Inv-loop μ-loop
+slice-read-ov c = search needs
 
-shared-slice-read-t26 : tie.Need-shared-slice-read-t26 Inv-loop μ-loop
-shared-slice-read-t26 c = search needs
+kept-requires : tie.Need-kept-requires Inv-loop μ-loop
+kept-requires c κs = search needs
 
-not-word-requires-2 : tie.Need-not-word-requires-2 Inv-loop μ-loop
-not-word-requires-2 c κs = search needs
+ones-requires : tie.Need-ones-requires Inv-loop μ-loop
+ones-requires c κs = search needs
 
-cut-word-requires : tie.Need-cut-word-requires Inv-loop μ-loop
-cut-word-requires c κs = search needs
-
-mul-ov-2 : tie.Need-mul-ov-2 Inv-loop μ-loop
-mul-ov-2 c = search needs
+mul-ov-4 : tie.Need-mul-ov-4 Inv-loop μ-loop
+mul-ov-4 c = search needs
 
 slice-write-ov-2 : tie.Need-slice-write-ov-2 Inv-loop μ-loop
 slice-write-ov-2 c = search needs
-
-mul-ou-2 : tie.Need-mul-ou-2 Inv-loop μ-loop
-mul-ou-2 c = search needs
-
-slice-write-ou-2 : tie.Need-slice-write-ou-2 Inv-loop μ-loop
-slice-write-ou-2 c = search needs
 
 same-length : tie.Need-same-length Inv-loop μ-loop
 same-length c = search needs
@@ -119,21 +125,26 @@ same-length-2 : tie.Need-same-length-2 Inv-loop μ-loop
 same-length-2 c = search needs
 
 returns : tie.Need-returns Inv-loop μ-loop
+unfolding cutWord
 returns c =
-    let l = c .before .before .before .before .before in
+    let l = c .before .before .before .before in
     let s = l .before .before .before .before .before in
     let a = s .args in
     let v = a .av .now in
     let u = a .au .now in
-    let last = length (a .ov .now) - 1 in
+    let last = l .loop .k - 1 in
     let p = s .pre .1 in
     let h = l .loop .inv in
-    let z : l .loop .k ≡ length (a .ov .now) - 1 = omega (arith, h .0, c .before .before .before .before .loop-test .left) in
-    let e = c .cut-word .ensures ∙ ap (cutWord (a .width) last) (c .before .not-word2 .ensures) ∙ one-cut notBit (at (fromPlanes (a .width) v u)) (a .width) last (wordBy (getD v last 0) (getD u last 0)) (operand (a .width) v u (s .pre .0 .0) (s .pre .0 .1) last) in
+    let whole : (i j : ℕ) → j < 64 → bitOf (wordBy (getD v i 0) (getD u i 0)) j ≡ at (fromPlanes (a .width) v u) (i * 64 + j) = operand (a .width) v u (s .pre .0 .0) (s .pre .0 .1) in
+    let z : l .loop .k ≡ length (a .ov .now) = omega (arith, h .0, c .before .before .before .loop-test .left) in
+    let g = fewer (h .1) last (omega arith) (λ i m. ap (λ (w : Word). w .value) (one-whole notBit (at (fromPlanes (a .width) v u)) (a .width) i (wordBy (getD v i 0) (getD u i 0)) (whole i) (omega (arith, z, m, p .0)))) in
+    let e =
+    ap₂ bitAnd (h .1 .upto last (omega (arith, z, p .0))) (c .ones .ensures ∙ ap (λ (n : ℕ). 2 ^ n - 1) (c .before .kept .ensures))
+    ∙ ap (λ (w : Word). w .value) (one-cut notBit (at (fromPlanes (a .width) v u)) (a .width) last (wordBy (getD v last 0) (getD u last 0)) (whole last)) in
     let q = ap wordCount (sym (length-tabulate (a .width) _)) in
     ap₂ lent
-    (plane-done valueDigit (result (a .width) v u) _ _ _ (more (rw z at (h .1)) (omega (arith, p .0)) (ap (λ (w : Word). w .value) e)) (omega (arith, p .0)) (p .0 ∙ q))
-    (plane-done unknownDigit (result (a .width) v u) _ _ _ (more (rw z at (h .2)) (omega (arith, p .0, p .1)) (ap (λ (w : Word). w .unknown) e)) (omega (arith, p .0, p .1)) (p .1 ∙ q))
+    (plane-done valueDigit (result (a .width) v u) _ _ _ (more g (omega (arith, z, p .0)) e) (omega (arith, z)) (p .0 ∙ q))
+    (plane-done unknownDigit (result (a .width) v u) _ _ _ (h .2) (omega (arith, z, p .0, p .1)) (p .1 ∙ q))
     ∙ ap (λ (n : ℕ). planesOf (tabulate n (λ i. notBit (at (fromPlanes (a .width) v u) i)))) (sym (length-tabulate (a .width) _))
 
 pub not-planes-spec : {M : Type 1} → statement M
@@ -142,30 +153,25 @@ not-planes-spec =
     (tie.spec
     Inv-loop
     μ-loop
-    sub-last
     loop-holds
-    mul-t14
-    shared-slice-read-t16
-    mul-t17
-    shared-slice-read-t19
-    not-word-requires
+    mul-u
+    shared-slice-read-u
     mul-ov
+    shared-slice-read-ov
+    mul-ov-2
     slice-write-ov
     mul-ou
     slice-write-ou
     add-k
     loop-less
     loop-again
-    mul-t12
-    shared-slice-read-t23
-    mul-t24
-    shared-slice-read-t26
-    not-word-requires-2
-    cut-word-requires
-    mul-ov-2
+    sub-last
+    mul-ov-3
+    slice-read-ov
+    kept-requires
+    ones-requires
+    mul-ov-4
     slice-write-ov-2
-    mul-ou-2
-    slice-write-ou-2
     same-length
     same-length-2
     returns)
