@@ -53,6 +53,31 @@ fn join_words(
     }
 }
 
+// The first n words, straight from the planes. Each operator has its call, so that its loop is compiled on its own.
+fn join_whole(
+    op: Bitwise,
+    av: &[u64],
+    au: &[u64],
+    bv: &[u64],
+    bu: &[u64],
+    ov: &mut [u64],
+    ou: &mut [u64],
+    n: usize,
+)
+    requires { ⌜ (n ≤ length (now av)) × (n ≤ length (now au)) ⌝ }
+    requires { ⌜ (n ≤ length (now bv)) × (n ≤ length (now bu)) ⌝ }
+    requires { ⌜ (n ≤ length (now ov)) × (n ≤ length (now ou)) ⌝ }
+    ensures { λ _. ⌜ Written 0 (λ k. laneWord (opBit op) (wordBy (getD (now (av .entry)) k 0) (getD (now (au .entry)) k 0)) (wordBy (getD (now (bv .entry)) k 0) (getD (now (bu .entry)) k 0)) .value) (length (now (ov .entry))) n (now (ov .exit)) ⌝ }
+    ensures { λ _. ⌜ Written 0 (λ k. laneWord (opBit op) (wordBy (getD (now (av .entry)) k 0) (getD (now (au .entry)) k 0)) (wordBy (getD (now (bv .entry)) k 0) (getD (now (bu .entry)) k 0)) .unknown) (length (now (ou .entry))) n (now (ou .exit)) ⌝ }
+{
+    match op {
+        Bitwise::And => join_words(Bitwise::And, av, au, bv, bu, ov, ou, n),
+        Bitwise::Or => join_words(Bitwise::Or, av, au, bv, bu, ov, ou, n),
+        Bitwise::Xor => join_words(Bitwise::Xor, av, au, bv, bu, ov, ou, n),
+        Bitwise::Merge => join_words(Bitwise::Merge, av, au, bv, bu, ov, ou, n),
+    }
+}
+
 // The row of the tables by which the operands are read.
 fn operator(op: Bitwise) -> Operator
     ensures { λ r. ⌜ r ≡ joined.operator op ⌝ }
@@ -90,7 +115,7 @@ pub fn join_planes(
     let xb = x.beyond;
     let yb = y.beyond;
     let mut k = least(x.width as usize, y.width as usize) / 64;
-    join_words(op, av, au, bv, bu, ov, ou, k);
+    join_whole(op, av, au, bv, bu, ov, ou, k);
     while k < ov.len() {
         let p = operand_word(av, au, x.width, k, xb);
         let q = operand_word(bv, bu, y.width, k, yb);

@@ -45,8 +45,8 @@ cast-least-2 c = search needs
 least-requires : tie.Need-least-requires Inv-loop μ-loop
 least-requires c κs = search needs
 
-join-words-requires : tie.Need-join-words-requires Inv-loop μ-loop
-join-words-requires c κs =
+join-whole-requires : tie.Need-join-whole-requires Inv-loop μ-loop
+join-whole-requires c κs =
     let m = c .before .before in
     let y = m .before .before .before in
     let x = y .before in
@@ -83,7 +83,7 @@ loop-holds c =
     let bu = a .bu .now in
     let w = s .pre .1 .1 .0 in
     let n = ap (λ (k : ℕ). k / 64) (m .least .ensures) in
-    let h = g .join-words .ensures in (
+    let h = g .join-whole .ensures in (
       value-written (a .op) (a .a) (a .b) av au bv bu _ (o .operator .ensures) _ _ (x .extent .ensures) (y .extent2 .ensures) _ w _ _ _ _ (h .0 .long ∙ s .pre .1 .1 .1 .0) n (h .0),
       unknown-written (a .op) (a .a) (a .b) av au bv bu _ (o .operator .ensures) _ _ (x .extent .ensures) (y .extent2 .ensures) _ w _ _ _ _ (h .1 .long ∙ s .pre .1 .1 .1 .1) n (h .1),
       omega (arith, s .fits .width),
@@ -221,7 +221,7 @@ join-planes-spec =
     cast-least
     cast-least-2
     least-requires
-    join-words-requires
+    join-whole-requires
     loop-holds
     operand-word-requires
     operand-word-requires-2
