@@ -1,7 +1,7 @@
 -- Two operands that are read by their extents, joined at the larger width.
 --     same-bits       the result over the extents is the result of the definition
 --     direct-word     word i of the result from word i of the planes, where both operands have it whole
-use mathlib.Core.Path.{_≡_, refl, ap, ap₂, _∙_}
+use mathlib.Core.Path.{_≡_, ap, ap₂, _∙_}
 use mathlib.Core.List.{List}
 use Prim.Native.Nat.{ℕ, _/_, _≤_, _<_, min, max}
 use native.Mathlib.Omega.{arith}

@@ -12,12 +12,12 @@ use words::inner::operand_word;
 ghost use mathlib.Core.Path.{_≡_};
 ghost use Prim.Native.Nat.{_≤_, max};
 ghost use lib.ListN.{length, getD};
-ghost use Rattle.words.specs.Vector.{at, Written};
-ghost use Rattle.words.specs.Planes.{wordCount, fromPlanes, wordOf, valueDigit, unknownDigit, lent, planesOf, Plane, wordBy};
+ghost use Rattle.words.specs.Vector.{Written};
+ghost use Rattle.words.specs.Planes.{wordCount, fromPlanes, lent, planesOf, Plane, wordBy};
 ghost use Rattle.value.specs.Checks.{vector};
 ghost use Rattle.lanes.specs.Lanes.{opBit, laneWord};
 ghost use Rattle.join.specs.Joined as joined;
-ghost use Rattle.join.specs.Joined.{joined, joinedOver, inverted};
+ghost use Rattle.join.specs.Joined.{joined, inverted};
 
 // One operator on the first n words.
 fn join_words(

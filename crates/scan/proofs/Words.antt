@@ -2,7 +2,7 @@
 --     both           lane formulas that pass the computed test mark the places of a word
 --     word-marked    the marks of word k, cut off at the width, are not 0 where a place of word k passes the test
 --     next, left     one word more without a mismatch; the scan is left at a mismatch
---     next-whole     the same by words straight from the planes, where both operands have them whole
+--     whole-marks    the marks of words straight from the planes, where both operands have them whole
 --     same-start     words that are known and the same hold no mismatch and leave nothing open
 --     one-word       the answer of operands that have one word each
 use mathlib.Core.Path.{_≡_, refl, sym, ap, ap₂, _∙_}
@@ -20,11 +20,11 @@ use Rattle.bit.specs.declared.LogicBit.{LogicBit}
 use Rattle.bit.specs.declared.LogicBit.the-variants.{Zero, One}
 use Rattle.words.specs.declared.Word.{Word}
 use Rattle.words.specs.Vector.{bitAt, tabulate, pack}
-use Rattle.words.specs.Planes.{stored, bitOf, fromPlanes, lent, wordBy}
-use Rattle.words.proofs.Digits.{pack-bit, pack-lt, pack-ext, bit-of-zero}
+use Rattle.words.specs.Planes.{stored, bitOf, fromPlanes, wordAt, lent, wordBy}
+use Rattle.words.proofs.Digits.{pack-bit, pack-lt, pack-ext, pack-cong, bit-of-zero}
 use Rattle.words.proofs.Planes.{getD-tabulate, getD-tabulate-out, length-tabulate}
 use Rattle.words.proofs.Lanes.{Lane, word, gives, lane}
-use Rattle.words.proofs.Extend.{cut}
+use Rattle.words.proofs.Extend.{cut, word-bit}
 use Rattle.fold.specs.Fold.{anyOf}
 use Rattle.fold.specs.Scanned.{some}
 use Rattle.fold.proofs.Gather.{gather-cong}
@@ -80,6 +80,12 @@ module _ (t : LogicBit → LogicBit → Bool) (fails : t Zero Zero ≡ false) (f
       ∙ nonzero 64 (pack 64 (λ j. cond (hit j) 1 0)) (pack-lt 64 (λ j. cond (hit j) 1 0) (λ j _. digit-lt (hit j)))
       ∙ gather-cong _||_ false 64 (λ j. eqb (bitAt (pack 64 (λ j. cond (hit j) 1 0)) j) 1) hit
       (λ j l. ap (λ (d : ℕ). eqb d 1) (pack-bit 64 (λ j. cond (hit j) 1 0) (λ j _. digit-lt (hit j)) j l) ∙ digit-one (hit j))
+
+-- the marks are told by the bits
+marked-cong : (t : LogicBit → LogicBit → Bool) (x x′ y y′ : Word) → ((j : ℕ) → j < 64 → bitOf x j ≡ bitOf x′ j) → ((j : ℕ) → j < 64 → bitOf y j ≡ bitOf y′ j)
+    → marked t x y ≡ marked t x′ y′
+unfolding marked
+marked-cong t x x′ y y′ hx hy = pack-cong 64 _ _ (λ j l. ap (λ (z : Bool). cond z 1 0) (ap₂ t (hx j l) (hy j l)))
 
 marked-lt : (t : LogicBit → LogicBit → Bool) (x y : Word) → marked t x y < 2 ^ 64
 unfolding marked
@@ -154,7 +160,7 @@ abbrev wordIn : List ℕ → List ℕ → ℕ → Word
 wordIn v u k = wordBy (getD v k 0) (getD u k 0)
 
 module _ (op : Comparison) (w : ℕ) (a b : Extent) (av au bv bu : List ℕ) where
-  pub next-whole : (k : ℕ) → k * 64 + 64 ≤ w → k * 64 + 64 ≤ a .width → k * 64 + 64 ≤ b .width
+  next-whole : (k : ℕ) → k * 64 + 64 ≤ w → k * 64 + 64 ≤ a .width → k * 64 + 64 ≤ b .width
       → (m : Marks) → m ≡ marksOf op (wordBy (getD av k 0) (getD au k 0)) (wordBy (getD bv k 0) (getD bu k 0)) → m .apart ≡ 0
       → (d : ℕ) → Compared op (placesOver w a (lent av au) b (lent bv bu)) d k
       → Compared op (placesOver w a (lent av au) b (lent bv bu)) (bitOr d (m .doubt)) (k + 1)
@@ -164,6 +170,17 @@ module _ (op : Comparison) (w : ℕ) (a b : Extent) (av au bv bu : List ℕ) whe
       (λ j l. sym (inside (a .width) av au (a .beyond) k j l (omega arith)))
       (λ j l. sym (inside (b .width) bv bu (b .beyond) k j l (omega arith)))
       m (whole op w k (wordIn av au k) (wordIn bv bu k) m e hw) d s z
+
+  pub whole-marks : (k : ℕ) → k * 64 + 64 ≤ w → k * 64 + 64 ≤ a .width → k * 64 + 64 ≤ b .width
+      → (m : Marks) → m ≡ marksOf op (wordBy (getD av k 0) (getD au k 0)) (wordBy (getD bv k 0) (getD bu k 0))
+      → m ≡ cutMarks w k (marksOf op (wordAt (λ i. getD (fromPlanes (a .width) av au) i (a .beyond)) k) (wordAt (λ i. getD (fromPlanes (b .width) bv bu) i (b .beyond)) k))
+  whole-marks k hw ha hb m e =
+      let f : ℕ → LogicBit = λ i. getD (fromPlanes (a .width) av au) i (a .beyond) in
+      let g : ℕ → LogicBit = λ i. getD (fromPlanes (b .width) bv bu) i (b .beyond) in
+      let hx : (j : ℕ) → j < 64 → bitOf (wordIn av au k) j ≡ bitOf (wordAt f k) j = λ j l. sym (inside (a .width) av au (a .beyond) k j l (omega arith)) ∙ sym (word-bit f k j l) in
+      let hy : (j : ℕ) → j < 64 → bitOf (wordIn bv bu k) j ≡ bitOf (wordAt g k) j = λ j l. sym (inside (b .width) bv bu (b .beyond) k j l (omega arith)) ∙ sym (word-bit g k j l) in
+      whole op w k (wordAt f k) (wordAt g k) m
+      (e ∙ ap₂ marksBy (marked-cong (mismatch op) (wordIn av au k) (wordAt f k) (wordIn bv bu k) (wordAt g k) hx hy) (marked-cong (unsure op) (wordIn av au k) (wordAt f k) (wordIn bv bu k) (wordAt g k) hx hy)) hw
 
   pub same-start : (k : ℕ) → k * 64 ≤ w → k * 64 ≤ a .width → k * 64 ≤ b .width → ((i : ℕ) → i < k → unlike av au bv bu i ≡ 0)
       → Compared op (placesOver w a (lent av au) b (lent bv bu)) 0 k
@@ -183,8 +200,9 @@ module _ (w : ℕ) (l : w ≤ 64) (a b : Word) where
       (λ j _. ap (λ (i : ℕ). onPair t (getD (wordPlaces w a b) i zeros)) (sym (zero-add j)))
       ∙ sym (word-marked t fails (bitOf a) (bitOf b) w 0 a b (λ j _. ap (bitOf a) (sym (zero-add j))) (λ j _. ap (bitOf b) (sym (zero-add j))))
 
-  pub one-word : (op : Comparison) (m : Marks) → m ≡ cutMarks w 0 (marksOf op a b) → answered (not (eqb (m .apart) 0)) (m .doubt) ≡ decided op (wordPlaces w a b)
-  unfolding cutMarks
-  one-word op m e =
-      ap (λ (m : Marks). answered (not (eqb (m .apart) 0)) (m .doubt)) e
+  pub one-word : (op : Comparison) (r : Marks) → r ≡ marksOf op a b → (m : ℕ) → m ≡ 2 ^ w - 1
+      → answered (not (eqb (bitAnd (r .apart) m) 0)) (bitAnd (r .doubt) m) ≡ decided op (wordPlaces w a b)
+  one-word op r e m h =
+      let n : w ≡ min 64 (w - 0 * 64) = omega arith in
+      ap₂ (λ (r : Marks) (m : ℕ). answered (not (eqb (bitAnd (r .apart) m) 0)) (bitAnd (r .doubt) m)) e (h ∙ ap (λ (n : ℕ). 2 ^ n - 1) n)
       ∙ by-tests op (wordPlaces w a b) _ (below w 0 (marked (unsure op) a b)) (some-place (mismatch op) (zero-apart op)) (some-place (unsure op) (zero-unsure op))

@@ -11,26 +11,16 @@ use words::inner::least;
 use words::inner::ones;
 use words::inner::operand_word;
 ghost use mathlib.Core.Path.{_≡_};
-ghost use mathlib.Core.Bool.{cond};
 ghost use Prim.Native.Nat.{ℕ, _*_, _≤_, _<_};
-ghost use lib.Dec.{eqb};
 ghost use lib.ListN.{length, getD};
-ghost use Rattle.bit.specs.declared.LogicBit.the-variants.{Zero, One, X};
 ghost use Rattle.words.specs.Planes.{wordCount, fromPlanes, wordAt, lent, Plane};
 ghost use Rattle.value.specs.Checks.{vector};
-ghost use Rattle.fold.specs.Scanned.{Scanned};
 ghost use Rattle.scan.specs.Compared as compared;
-ghost use Rattle.scan.specs.Compared.{mismatch, unsure, onPair, decided, compared, placesOver, wordPlaces, marksOf, cutMarks, unlike};
+ghost use Rattle.scan.specs.Compared.{decided, compared, placesOver, wordPlaces, marksOf, cutMarks, unlike};
 
 // The 64 places of a word of each operand: a one where they mismatch, and a one where an unknown bit leaves the answer in doubt.
 struct Marks {
     apart: u64,
-    doubt: u64,
-}
-
-// How many words at the start of two operands were passed without a mismatch, and ones where these leave the answer in doubt.
-struct Start {
-    count: usize,
     doubt: u64,
 }
 
@@ -82,39 +72,20 @@ fn lane_marks(op: Comparison, a: Word, b: Word) -> Marks
     }
 }
 
-// The places of word k that lie below the width.
-fn word_marks(op: Comparison, a: Word, b: Word, width: u32, k: usize) -> Marks
-    ensures { λ r. ⌜ r ≡ cutMarks width k (marksOf op a b) ⌝ }
-{
-    let r = lane_marks(op, a, b);
-    let n = kept(width, k);
-    let m = ones(n);
-    Marks {
-        apart: r.apart & m,
-        doubt: r.doubt & m,
-    }
-}
-
-// 0 on a mismatch, else x where a place is in doubt, else 1.
-fn answer(is_apart: bool, doubt: u64) -> LogicBit
-    ensures { λ r. ⌜ r ≡ cond «is_apart» Zero (cond (eqb doubt 0) One X) ⌝ }
-{
-    if is_apart {
-        return LogicBit::Zero;
-    }
-    if doubt == 0 {
-        return LogicBit::One;
-    }
-    LogicBit::X
-}
-
 // Compares two operands of at most 64 bits, extended to the width already, each in one word.
 pub fn compare_words(op: Comparison, a: Word, b: Word, width: u32) -> LogicBit
     requires { ⌜ width ≤ 64 ⌝ }
     ensures { λ r. ⌜ r ≡ decided op (wordPlaces width a b) ⌝ }
 {
-    let m = word_marks(op, a, b, width, 0);
-    answer(m.apart != 0, m.doubt)
+    let r = lane_marks(op, a, b);
+    let m = ones(width as usize);
+    if (r.apart & m) != 0 {
+        LogicBit::Zero
+    } else if (r.doubt & m) == 0 {
+        LogicBit::One
+    } else {
+        LogicBit::X
+    }
 }
 
 // Passes over the first n words, eight at a time, up to eight of which one differs or has an unknown bit: no comparison finds anything in
@@ -142,38 +113,8 @@ fn pass_same(av: &[u64], au: &[u64], bv: &[u64], bu: &[u64], n: usize) -> usize
     k
 }
 
-// Passes over the first n words, straight from the planes, up to one that holds a mismatch. What is told of them holds for any operands
-// that have these n words whole.
-fn pass_whole(op: Comparison, av: &[u64], au: &[u64], bv: &[u64], bu: &[u64], n: usize) -> Start
-    requires { ⌜ (n ≤ length (now av)) × (n ≤ length (now au)) ⌝ }
-    requires { ⌜ (n ≤ length (now bv)) × (n ≤ length (now bu)) ⌝ }
-    ensures { λ r. ⌜ ((w : ℕ) (a b : Extent) → n * 64 ≤ w → n * 64 ≤ a .width → n * 64 ≤ b .width → Scanned (onPair (mismatch op)) (onPair (unsure op)) (Zero, Zero) (Zero, Zero) (placesOver w a (lent (now (av .entry)) (now (au .entry))) b (lent (now (bv .entry)) (now (bu .entry)))) (r .doubt) (r .count)) ⌝ }
-{
-    let mut doubt = 0;
-    let mut k = pass_same(av, au, bv, bu, n);
-    while k < n {
-        let a = Word {
-            value: av[k],
-            unknown: au[k],
-        };
-        let b = Word {
-            value: bv[k],
-            unknown: bu[k],
-        };
-        let m = lane_marks(op, a, b);
-        if m.apart != 0 {
-            break;
-        }
-        doubt = doubt | m.doubt;
-        k += 1;
-    }
-    Start {
-        count: k,
-        doubt: doubt,
-    }
-}
-
-// The places of word k of two operands, through the reader of extended operands.
+// The places of word k of two operands that lie below the width. The first n words are whole in both and are read straight from the planes, the
+// others through the reader of extended operands.
 fn marks_at(
     op: Comparison,
     a: Extent,
@@ -183,20 +124,40 @@ fn marks_at(
     bv: &[u64],
     bu: &[u64],
     width: u32,
+    n: usize,
     k: usize,
 ) -> Marks
     requires { ⌜ (wordCount (a .width) ≤ length (now av)) × (wordCount (a .width) ≤ length (now au)) ⌝ }
     requires { ⌜ (wordCount (b .width) ≤ length (now bv)) × (wordCount (b .width) ≤ length (now bu)) ⌝ }
+    requires { ⌜ (n * 64 ≤ width) × ((n * 64 ≤ a .width) × (n * 64 ≤ b .width)) ⌝ }
     ensures { λ r. ⌜ r ≡ cutMarks width k (marksOf op (wordAt (λ i. getD (fromPlanes (a .width) (now (av .entry)) (now (au .entry))) i (a .beyond)) k) (wordAt (λ i. getD (fromPlanes (b .width) (now (bv .entry)) (now (bu .entry))) i (b .beyond)) k)) ⌝ }
 {
-    let ab = a.beyond;
-    let bb = b.beyond;
-    let x = operand_word(av, au, a.width, k, ab);
-    let y = operand_word(bv, bu, b.width, k, bb);
-    word_marks(op, x, y, width, k)
+    if k < n {
+        let x = Word {
+            value: av[k],
+            unknown: au[k],
+        };
+        let y = Word {
+            value: bv[k],
+            unknown: bu[k],
+        };
+        lane_marks(op, x, y)
+    } else {
+        let ab = a.beyond;
+        let bb = b.beyond;
+        let x = operand_word(av, au, a.width, k, ab);
+        let y = operand_word(bv, bu, b.width, k, bb);
+        let r = lane_marks(op, x, y);
+        let m = ones(kept(width, k));
+        Marks {
+            apart: r.apart & m,
+            doubt: r.doubt & m,
+        }
+    }
 }
 
-// Scans the words of two operands of the width, from the first that was not passed over, and leaves at the first mismatch.
+// Scans the words of two operands of the width, from the first that was not passed over, and leaves at the first mismatch: 0 there, else x where a
+// place is in doubt, else 1.
 fn scan(
     op: Comparison,
     a: Extent,
@@ -213,17 +174,14 @@ fn scan(
     ensures { λ r. ⌜ r ≡ decided op (placesOver width a (lent (now (av .entry)) (now (au .entry))) b (lent (now (bv .entry)) (now (bu .entry)))) ⌝ }
 {
     let n = least(a.width as usize, b.width as usize) / 64;
-    let start = pass_whole(op, av, au, bv, bu, n);
     let count = words::word_count(width);
-    let mut is_apart = false;
-    let mut doubt = start.doubt;
-    let mut k = start.count;
+    let mut doubt = 0;
+    let mut k = pass_same(av, au, bv, bu, n);
     'words: while k < count {
-        let m = marks_at(op, a, av, au, b, bv, bu, width, k);
+        let m = marks_at(op, a, av, au, b, bv, bu, width, n, k);
         let mut bits = m.apart;
         while bits != 0 {
             if bits % 2 == 1 {
-                is_apart = true;
                 break 'words;
             }
             bits = bits / 2;
@@ -231,7 +189,13 @@ fn scan(
         doubt = doubt | m.doubt;
         k += 1;
     }
-    answer(is_apart, doubt)
+    if k < count {
+        LogicBit::Zero
+    } else if doubt == 0 {
+        LogicBit::One
+    } else {
+        LogicBit::X
+    }
 }
 
 // The comparison of two accepted vectors.

@@ -1,5 +1,5 @@
 -- `narrow::not`: the lanes of one word, cut off at the width.
-use mathlib.Core.Path.{_≡_, ap, _∙_}
+use mathlib.Core.Path.{ap, _∙_}
 use Prim.Native.Nat.{ℕ, _-_, _^_}
 use Rattle.lanes.proofs.Places.{not-word}
 use Rattle.narrow.proofs.Operators.{inverted-word}

@@ -1,21 +1,38 @@
 -- `scan::inner::compare_words`: the marks of the only word tell the answer.
-use mathlib.Core.Path.{_∙_}
 use Rattle.scan.proofs.Words.{one-word}
+use borrow.Author.Tests.{eq-eqb, ne-eqb}
 use borrow.Author.Needs.{needs}
 use Rattle.scan.proofs.inner.compare_words.Statement.{statement}
 use Rattle.scan.proofs.inner.compare_words.Tie as tie
 
-word-marks-requires : tie.Need-word-marks-requires
-word-marks-requires c κs = search needs
+lane-marks-requires : tie.Need-lane-marks-requires
+lane-marks-requires c κs = search needs
 
-answer-requires : tie.Need-answer-requires
-answer-requires c κs = search needs
+ones-requires : tie.Need-ones-requires
+ones-requires c κs = search needs
 
 returns : tie.Need-returns
 returns c =
-    let s = c .before .before .before in
+    let o = c .before .before in
+    let s = o .before .before in
     let a = s .args in
-    c .answer .ensures ∙ one-word (a .width) (s .pre) (a .a) (a .b) (a .op) _ (c .before .before .word-marks .ensures)
+    simp (ne-eqb _ _ (c .if1 .taken)) at (one-word (a .width) (s .pre) (a .a) (a .b) (a .op) _ (o .before .lane-marks .ensures) _ (o .ones .ensures))
+
+returns-2 : tie.Need-returns-2
+returns-2 c =
+    let e = c .before .before in
+    let o = e .before .before in
+    let s = o .before .before in
+    let a = s .args in
+    simp (eq-eqb _ _ (e .if1 .left), eq-eqb _ _ (c .if2 .taken)) at (one-word (a .width) (s .pre) (a .a) (a .b) (a .op) _ (o .before .lane-marks .ensures) _ (o .ones .ensures))
+
+returns-3 : tie.Need-returns-3
+returns-3 c =
+    let e = c .before .before in
+    let o = e .before .before in
+    let s = o .before .before in
+    let a = s .args in
+    simp (eq-eqb _ _ (e .if1 .left), ne-eqb _ _ (c .if2 .left)) at (one-word (a .width) (s .pre) (a .a) (a .b) (a .op) _ (o .before .lane-marks .ensures) _ (o .ones .ensures))
 
 pub compare-words-spec : {M : Type 1} → statement M
-compare-words-spec = tie.close (tie.spec word-marks-requires answer-requires returns)
+compare-words-spec = tie.close (tie.spec lane-marks-requires ones-requires returns returns-2 returns-3)
