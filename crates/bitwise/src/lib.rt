@@ -19,19 +19,12 @@ pub fn result_header(op: Bitwise, a: Header, b: Header) -> Header
 {
     let width = larger(a.width, b.width);
     match op {
-        Bitwise::Merge => {
-            if 64 < width {
-                return value::plain_header(width);
-            }
-            Header {
-                width: width,
-                is_signed: a.is_signed & b.is_signed,
-                is_fill: false,
-            }
-        }
-        Bitwise::And => value::plain_header(width),
-        Bitwise::Or => value::plain_header(width),
-        Bitwise::Xor => value::plain_header(width),
+        Bitwise::And | Bitwise::Or | Bitwise::Xor => value::plain_header(width),
+        Bitwise::Merge => Header {
+            width: width,
+            is_signed: (width <= 64) & (a.is_signed & b.is_signed),
+            is_fill: false,
+        },
     }
 }
 
