@@ -6,9 +6,10 @@ use mathlib.Core.List.{List}
 use Prim.Native.Nat.{ℕ, _/_, _≤_, _<_, min, max}
 use native.Mathlib.Omega.{arith}
 use lib.ListN.{length, getD}
+use Rattle.bit.specs.declared.LogicBit.{LogicBit}
 use Rattle.words.specs.declared.Word.{Word}
 use Rattle.words.specs.Vector.{at, tabulate, Written}
-use Rattle.words.specs.Planes.{valueDigit, unknownDigit, fromPlanes, wordOf, wordAt, lent, wordBy}
+use Rattle.words.specs.Planes.{valueDigit, unknownDigit, fromPlanes, wordOf, wordAt, Planes, lent, wordBy}
 use Rattle.value.specs.declared.Header.{Header}
 use Rattle.extension.specs.declared.Extent.{Extent}
 use Rattle.extension.specs.declared.Operator.{Operator}
@@ -18,9 +19,14 @@ use Rattle.extension.proofs.Extension.{extent-at, extent-narrow}
 use Rattle.lanes.specs.declared.Bitwise.{Bitwise}
 use Rattle.lanes.specs.Lanes.{opBit}
 use Rattle.join.specs.Joined.{operator, joined}
-use Rattle.join.specs.Joined.{joinedOver}
 use Rattle.lanes.specs.Lanes.{laneWord}
 use Rattle.lanes.proofs.Places.{direct, whole-word}
+
+-- the rule at each place of two operands that are read by their extents, at width w
+abbrev pub joinedOver : Bitwise → ℕ → Extent → Planes → Extent → Planes → List LogicBit
+joinedOver op w a p b q =
+    tabulate w
+    (λ i. opBit op (getD (fromPlanes (a .width) (p .value) (p .unknown)) i (a .beyond)) (getD (fromPlanes (b .width) (q .value) (q .unknown)) i (b .beyond)))
 
 module _ (op : Bitwise) (a b : Header) (av au bv bu : List ℕ) (t : Operator) (e : t ≡ operator op) (x y : Extent)
     (hx : x ≡ extentOf t (vector a (lent av au)) b) (hy : y ≡ extentOf t (vector b (lent bv bu)) a) (w : ℕ) (hw : w ≡ max (a .width) (b .width)) where

@@ -1,13 +1,10 @@
 -- Two vectors joined place by place, and not of one: document 01, "Result vector" (IEEE 1800-2017, 11.4.8 and 11.4.11).
 use mathlib.Core.List.{List}
-use Prim.Native.Nat.{ℕ}
-use lib.ListN.{length, getD}
+use lib.ListN.{length}
 use Rattle.bit.specs.declared.LogicBit.{LogicBit}
 use Rattle.bit.specs.Rules.{notBit}
 use Rattle.words.specs.Vector.{tabulate, at}
-use Rattle.words.specs.Planes.{fromPlanes, Planes}
 use Rattle.value.specs.Checks.{Vector}
-use Rattle.extension.specs.declared.Extent.{Extent}
 use Rattle.extension.specs.declared.Operator.{Operator}
 use Rattle.extension.specs.declared.Operator.the-variants as operator-of
 use Rattle.extension.specs.Extension.{largerWidth, operandAt}
@@ -27,12 +24,6 @@ abbrev pub joined : Bitwise → Vector → Vector → List LogicBit
 joined op a b =
     tabulate (largerWidth (a .header) (b .header))
     (λ i. opBit op (operandAt (operator op) a (b .header) i) (operandAt (operator op) b (a .header) i))
-
--- the same over two operands that are read by their extents, at width w: what the inner functions give
-abbrev pub joinedOver : Bitwise → ℕ → Extent → Planes → Extent → Planes → List LogicBit
-joinedOver op w a p b q =
-    tabulate w
-    (λ i. opBit op (getD (fromPlanes (a .width) (p .value) (p .unknown)) i (a .beyond)) (getD (fromPlanes (b .width) (q .value) (q .unknown)) i (b .beyond)))
 
 -- 0 and 1 exchanged, x and z give x
 abbrev pub inverted : List LogicBit → List LogicBit

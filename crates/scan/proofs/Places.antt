@@ -10,12 +10,12 @@ use mathlib.Core.Bool.{Bool, true, false, not, _||_, cond}
 use mathlib.Core.List.{List}
 use Prim.Native.Nat.{ℕ, _*_, _≤_, max}
 use lib.Dec.{eqb}
-use lib.ListN.{length}
+use lib.ListN.{length, getD}
 use Rattle.bit.specs.declared.LogicBit.{LogicBit}
 use Rattle.bit.specs.declared.LogicBit.the-variants.{Zero, One, X, Z}
 use Rattle.bit.specs.Rules.{same, notBit, xorBit}
 use Rattle.words.specs.Vector.{tabulate}
-use Rattle.words.specs.Planes.{lent}
+use Rattle.words.specs.Planes.{Planes, lent, fromPlanes}
 use Rattle.value.specs.declared.Header.{Header}
 use Rattle.value.specs.Checks.{Vector, vector}
 use Rattle.fold.specs.Fold.{anyOf, isUnknown, reduceAnd}
@@ -29,11 +29,17 @@ use Rattle.extension.specs.Extension.{largerWidth, operandAt, extentOf}
 use Rattle.extension.proofs.Extension.{extent-at, extent-narrow}
 use Rattle.scan.specs.declared.Comparison.{Comparison}
 use Rattle.scan.specs.declared.Comparison.the-variants.{Equal, CaseEqual, CasezEqual, CasexEqual, WildcardEqual}
-use Rattle.scan.specs.Compared.{operator, mismatch, unsure, onPair, decided, places, compared, placesOver}
+use Rattle.scan.specs.Compared.{operator, mismatch, unsure, onPair, decided, places, compared}
 
 -- what stands at each place beyond the width
 abbrev pub zeros : LogicBit × LogicBit
 zeros = (Zero, Zero)
+
+-- the places over two operands that are read by their extents, at width w
+abbrev pub placesOver : ℕ → Extent → Planes → Extent → Planes → List (LogicBit × LogicBit)
+placesOver w a p b q =
+    tabulate w
+    (λ i. (getD (fromPlanes (a .width) (p .value) (p .unknown)) i (a .beyond), getD (fromPlanes (b .width) (q .value) (q .unknown)) i (b .beyond)))
 
 pub zero-apart : (op : Comparison) → mismatch op Zero Zero ≡ false
 zero-apart Equal = refl

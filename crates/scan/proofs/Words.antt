@@ -33,8 +33,8 @@ use Rattle.fold.proofs.Scan.{start, more, found}
 use Rattle.extension.specs.declared.Extent.{Extent}
 use Rattle.scan.specs.declared.Comparison.{Comparison}
 use Rattle.scan.specs.declared.inner.Marks.{Marks}
-use Rattle.scan.specs.Compared.{mismatch, unsure, onPair, decided, placesOver, wordPlaces, marked, marksOf, cutMarks, unlike}
-use Rattle.scan.proofs.Places.{zeros, zero-apart, zero-unsure, one-apart, one-unsure, answered, Compared, by-tests, apart}
+use Rattle.scan.specs.Compared.{mismatch, unsure, onPair, decided, wordPlaces, marked, marksOf, cutMarks, unlike}
+use Rattle.scan.proofs.Places.{zeros, placesOver, zero-apart, zero-unsure, one-apart, one-unsure, answered, Compared, by-tests, apart}
 
 abbrev pub marksBy : ℕ → ℕ → Marks
 marksBy m d = record { apart = m; doubt = d }

@@ -9,10 +9,9 @@ use Rattle.bit.specs.declared.LogicBit.the-variants.{Zero, One, X, Z}
 use Rattle.bit.specs.Rules.{same, known}
 use Rattle.words.specs.declared.Word.{Word}
 use Rattle.words.specs.Vector.{tabulate, pack}
-use Rattle.words.specs.Planes.{Planes, fromPlanes, bitOf}
+use Rattle.words.specs.Planes.{bitOf}
 use Rattle.value.specs.Checks.{Vector}
 use Rattle.fold.specs.Fold.{anyOf}
-use Rattle.extension.specs.declared.Extent.{Extent}
 use Rattle.extension.specs.declared.Operator.{Operator}
 use Rattle.extension.specs.declared.Operator.the-variants as operator-of
 use Rattle.extension.specs.Extension.{largerWidth, operandAt}
@@ -72,12 +71,6 @@ abbrev pub compared : Comparison → Vector → Vector → LogicBit
 compared op a b = decided op (places op a b)
 
 -- ---- what the inner functions give
-
--- the same places over two operands that are read by their extents, at width w: what the inner functions scan
-abbrev pub placesOver : ℕ → Extent → Planes → Extent → Planes → List (LogicBit × LogicBit)
-placesOver w a p b q =
-    tabulate w
-    (λ i. (getD (fromPlanes (a .width) (p .value) (p .unknown)) i (a .beyond), getD (fromPlanes (b .width) (q .value) (q .unknown)) i (b .beyond)))
 
 -- a one at each of the 64 places of two words that pass the test
 unfoldable pub marked : (LogicBit → LogicBit → Bool) → Word → Word → ℕ

@@ -16,7 +16,7 @@ ghost use lib.ListN.{length, getD};
 ghost use Rattle.words.specs.Planes.{wordCount, fromPlanes, wordAt, lent, Plane};
 ghost use Rattle.value.specs.Checks.{vector};
 ghost use Rattle.scan.specs.Compared as compared;
-ghost use Rattle.scan.specs.Compared.{decided, compared, placesOver, wordPlaces, marksOf, cutMarks, unlike};
+ghost use Rattle.scan.specs.Compared.{decided, compared, wordPlaces, marksOf, cutMarks, unlike};
 
 // The 64 places of a word of each operand: a one where they mismatch, and a one where an unknown bit leaves the answer in doubt.
 struct Marks {
@@ -156,49 +156,8 @@ fn marks_at(
     }
 }
 
-// Scans the words of two operands of the width, from the first that was not passed over, and leaves at the first mismatch: 0 there, else x where a
-// place is in doubt, else 1.
-fn scan(
-    op: Comparison,
-    a: Extent,
-    av: &[u64],
-    au: &[u64],
-    b: Extent,
-    bv: &[u64],
-    bu: &[u64],
-    width: u32,
-) -> LogicBit
-    requires { ⌜ (wordCount (a .width) ≤ length (now av)) × (wordCount (a .width) ≤ length (now au)) ⌝ }
-    requires { ⌜ (wordCount (b .width) ≤ length (now bv)) × (wordCount (b .width) ≤ length (now bu)) ⌝ }
-    requires { ⌜ a .width ≤ width ⌝ }
-    ensures { λ r. ⌜ r ≡ decided op (placesOver width a (lent (now (av .entry)) (now (au .entry))) b (lent (now (bv .entry)) (now (bu .entry)))) ⌝ }
-{
-    let n = least(a.width as usize, b.width as usize) / 64;
-    let count = words::word_count(width);
-    let mut doubt = 0;
-    let mut k = pass_same(av, au, bv, bu, n);
-    'words: while k < count {
-        let m = marks_at(op, a, av, au, b, bv, bu, width, n, k);
-        let mut bits = m.apart;
-        while bits != 0 {
-            if bits % 2 == 1 {
-                break 'words;
-            }
-            bits = bits / 2;
-        }
-        doubt = doubt | m.doubt;
-        k += 1;
-    }
-    if k < count {
-        LogicBit::Zero
-    } else if doubt == 0 {
-        LogicBit::One
-    } else {
-        LogicBit::X
-    }
-}
-
-// The comparison of two accepted vectors.
+// The comparison of two accepted vectors: the words are scanned from the first that was not passed over, and the scan is left at the first
+// mismatch. 0 there, else x where a place is in doubt, else 1.
 pub fn compare(
     op: Comparison,
     a: Header,
@@ -216,5 +175,27 @@ pub fn compare(
     let x = extension::inner::extent(t, a, av, au, b);
     let y = extension::inner::extent(t, b, bv, bu, a);
     let width = extension::larger(a.width, b.width);
-    scan(op, x, av, au, y, bv, bu, width)
+    let n = least(x.width as usize, y.width as usize) / 64;
+    let count = words::word_count(width);
+    let mut doubt = 0;
+    let mut k = pass_same(av, au, bv, bu, n);
+    'words: while k < count {
+        let m = marks_at(op, x, av, au, y, bv, bu, width, n, k);
+        let mut bits = m.apart;
+        while bits != 0 {
+            if bits % 2 == 1 {
+                break 'words;
+            }
+            bits = bits / 2;
+        }
+        doubt = doubt | m.doubt;
+        k += 1;
+    }
+    if k < count {
+        LogicBit::Zero
+    } else if doubt == 0 {
+        LogicBit::One
+    } else {
+        LogicBit::X
+    }
 }

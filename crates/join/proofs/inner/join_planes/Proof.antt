@@ -12,8 +12,7 @@ use Rattle.words.proofs.Planes.{length-tabulate}
 use Rattle.words.proofs.Fill.{more, plane-done}
 use Rattle.lanes.specs.Lanes.{opBit}
 use Rattle.lanes.proofs.Places.{cutWord, rest-word}
-use Rattle.join.specs.Joined.{joinedOver}
-use Rattle.join.proofs.Operands.{left-narrow, right-narrow, same-bits, value-written, unknown-written}
+use Rattle.join.proofs.Operands.{joinedOver, left-narrow, right-narrow, same-bits, value-written, unknown-written}
 use borrow.Author.Needs.{needs}
 use Rattle.join.proofs.inner.join_planes.Statement.{statement}
 use Rattle.join.proofs.inner.join_planes.Tie as tie
