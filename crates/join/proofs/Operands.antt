@@ -1,7 +1,8 @@
 -- Two operands that are read by their extents, joined at the larger width.
---     same-bits       the result over the extents is the result of the definition
---     direct-word     word i of the result from word i of the planes, where both operands have it whole
-use mathlib.Core.Path.{_≡_, ap, ap₂, _∙_}
+--     left-narrow, right-narrow          the extents are no wider than the operands
+--     all-written                        the planes of the result, once every word is written
+--     value-written, unknown-written     words of the result from those of the planes, where both operands have them whole
+use mathlib.Core.Path.{_≡_, sym, ap, ap₂, _∙_}
 use mathlib.Core.List.{List}
 use Prim.Native.Nat.{ℕ, _/_, _≤_, _<_, min, max}
 use native.Mathlib.Omega.{arith}
@@ -9,7 +10,9 @@ use lib.ListN.{length, getD}
 use Rattle.bit.specs.declared.LogicBit.{LogicBit}
 use Rattle.words.specs.declared.Word.{Word}
 use Rattle.words.specs.Vector.{at, tabulate, Written}
-use Rattle.words.specs.Planes.{valueDigit, unknownDigit, fromPlanes, wordOf, wordAt, Planes, lent, wordBy}
+use Rattle.words.specs.Planes.{valueDigit, unknownDigit, wordCount, fromPlanes, wordOf, wordAt, Planes, lent, planesOf, wordBy}
+use Rattle.words.proofs.Planes.{length-tabulate}
+use Rattle.words.proofs.Fill.{plane-done}
 use Rattle.value.specs.declared.Header.{Header}
 use Rattle.extension.specs.declared.Extent.{Extent}
 use Rattle.extension.specs.declared.Operator.{Operator}
@@ -36,7 +39,7 @@ module _ (op : Bitwise) (a b : Header) (av au bv bu : List ℕ) (t : Operator) (
   pub right-narrow : y .width ≤ b .width
   right-narrow = rw hy (extent-narrow t (vector b (lent bv bu)) a)
 
-  pub same-bits : joinedOver op w x (lent av au) y (lent bv bu) ≡ joined op (vector a (lent av au)) (vector b (lent bv bu))
+  same-bits : joinedOver op w x (lent av au) y (lent bv bu) ≡ joined op (vector a (lent av au)) (vector b (lent bv bu))
   same-bits =
       ap₂ (λ (x y : Extent). joinedOver op w x (lent av au) y (lent bv bu))
       (hx ∙ ap (λ (t : Operator). extentOf t (vector a (lent av au)) b) e)
@@ -46,7 +49,16 @@ module _ (op : Bitwise) (a b : Header) (av au bv bu : List ℕ) (t : Operator) (
       (λ (n : ℕ). tabulate n
       (λ i. opBit op (operandAt (operator op) (vector a (lent av au)) b i) (operandAt (operator op) (vector b (lent bv bu)) a i))) hw
 
-  pub direct-word : (i : ℕ) → i < min (x .width) (y .width) / 64
+  -- the planes of the result, once every word is written
+  pub all-written : (k : ℕ) (ov ou : List ℕ) → Written 0 (wordOf valueDigit (at (joinedOver op w x (lent av au) y (lent bv bu)))) (wordCount w) k ov
+      → Written 0 (wordOf unknownDigit (at (joinedOver op w x (lent av au) y (lent bv bu)))) (wordCount w) k ou → wordCount w ≤ k
+      → lent ov ou ≡ planesOf (joined op (vector a (lent av au)) (vector b (lent bv bu)))
+  all-written k ov ou hv hu l =
+      let R = joinedOver op w x (lent av au) y (lent bv bu) in
+      let e = ap wordCount (sym (length-tabulate w _)) in
+      ap₂ lent (plane-done valueDigit R _ _ _ hv l e) (plane-done unknownDigit R _ _ _ hu l e) ∙ ap planesOf same-bits
+
+  direct-word : (i : ℕ) → i < min (x .width) (y .width) / 64
       → laneWord (opBit op) (wordBy (getD av i 0) (getD au i 0)) (wordBy (getD bv i 0) (getD bu i 0))
       ≡ wordAt (at (joinedOver op w x (lent av au) y (lent bv bu))) i
   direct-word i l =

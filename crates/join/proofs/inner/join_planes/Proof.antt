@@ -1,18 +1,18 @@
 -- `join::inner::join_planes`: whole words straight from the planes; behind them the words below k are those of the result.
-use mathlib.Core.Path.{sym, ap, ap₂, _∙_}
-use Prim.Native.Nat.{ℕ, _-_, _/_, _^_, _≤_}
+use mathlib.Core.Path.{_≡_, refl, sym, ap, ap₂, _∙_}
+use mathlib.Core.Logic.{_⊎_, inl, inr}
+use Prim.Native.Nat.{ℕ, _-_, _/_, _^_, _≤_, min}
 use native.Mathlib.Omega.{arith}
 use lib.Bits.{bitAnd}
 use lib.ListN.{getD}
 use Rattle.bit.specs.declared.LogicBit.{LogicBit}
 use Rattle.words.specs.declared.Word.{Word}
 use Rattle.words.specs.Vector.{at, Written}
-use Rattle.words.specs.Planes.{valueDigit, unknownDigit, wordCount, fromPlanes, wordOf, lent, planesOf, wordBy}
-use Rattle.words.proofs.Planes.{length-tabulate}
-use Rattle.words.proofs.Fill.{more, plane-done}
+use Rattle.words.specs.Planes.{valueDigit, unknownDigit, wordCount, fromPlanes, wordOf, lent, wordBy}
+use Rattle.words.proofs.Fill.{more}
 use Rattle.lanes.specs.Lanes.{opBit}
 use Rattle.lanes.proofs.Places.{cutWord, rest-word}
-use Rattle.join.proofs.Operands.{joinedOver, left-narrow, right-narrow, same-bits, value-written, unknown-written}
+use Rattle.join.proofs.Operands.{joinedOver, left-narrow, right-narrow, all-written, value-written, unknown-written}
 use borrow.Author.Needs.{needs}
 use Rattle.join.proofs.inner.join_planes.Statement.{statement}
 use Rattle.join.proofs.inner.join_planes.Tie as tie
@@ -25,6 +25,36 @@ Inv-loop op av au bv bu width ov₀ ou₀ x y xb yb k₀ ov ou k =
 
 abbrev μ-loop : tie.MeasureT-loop
 μ-loop op av au bv bu width ov₀ ou₀ x y xb yb k₀ ov ou k = wordCount width - k
+
+-- ---- both operands, as they are read
+
+module _ (c : tie.After-extent2 Inv-loop μ-loop) where
+  left-below : c .before .extent .result .width ≤ c .before .before .before .before .before .before .before .before .before .args .a .width
+  left-below =
+      let o = c .before .before in
+      let s = o .before .before .before .before .before .before .before in
+      let a = s .args in
+      left-narrow (a .op) (a .a) (a .b) (a .av .now) (a .au .now) (a .bv .now) (a .bu .now) _ (o .operator .ensures) _ _ (c .before .extent .ensures) (c .extent2 .ensures) _ (s .pre .1 .1 .0)
+
+  right-below : c .extent2 .result .width ≤ c .before .before .before .before .before .before .before .before .before .args .b .width
+  right-below =
+      let o = c .before .before in
+      let s = o .before .before .before .before .before .before .before in
+      let a = s .args in
+      right-narrow (a .op) (a .a) (a .b) (a .av .now) (a .au .now) (a .bv .now) (a .bu .now) _ (o .operator .ensures) _ _ (c .before .extent .ensures) (c .extent2 .ensures) _ (s .pre .1 .1 .0)
+
+  left-long : (l : ℕ) → l ≡ wordCount (c .before .before .before .before .before .before .before .before .before .args .a .width) → wordCount (c .before .extent .result .width) ≤ l
+  left-long l e = omega (arith, e, left-below)
+
+  right-long : (l : ℕ) → l ≡ wordCount (c .before .before .before .before .before .before .before .before .before .args .b .width) → wordCount (c .extent2 .result .width) ≤ l
+  right-long l e = omega (arith, e, right-below)
+
+  -- the whole words of both are there, and in the result
+  few : (n : ℕ) → n ≡ min (c .before .extent .result .width) (c .extent2 .result .width) → (w l : ℕ)
+      → (w ≡ c .before .before .before .before .before .before .before .before .before .args .a .width) ⊎ ((w ≡ c .before .before .before .before .before .before .before .before .before .args .b .width) ⊎ (w ≡ c .before .before .before .before .before .before .before .before .before .args .width)) → l ≡ wordCount w → n / 64 ≤ l
+  few n e w l (inl h) g = omega (arith, e, h, g, left-below)
+  few n e w l (inr (inl h)) g = omega (arith, e, h, g, right-below)
+  few n e w l (inr (inr h)) g = omega (arith, e, h, g, left-below, c .before .before .before .before .before .before .before .before .before .pre .1 .1 .0)
 
 operator-requires : tie.Need-operator-requires Inv-loop μ-loop
 operator-requires c κs = search needs
@@ -48,77 +78,41 @@ join-whole-requires : tie.Need-join-whole-requires Inv-loop μ-loop
 join-whole-requires c κs =
     let m = c .before .before in
     let y = m .before .before .before in
-    let x = y .before in
-    let o = x .before in
-    let s = o .before .before .before .before .before .before .before in
-    let a = s .args in
-    let av = a .av .now in
-    let au = a .au .now in
-    let bv = a .bv .now in
-    let bu = a .bu .now in
-    let w = s .pre .1 .1 .0 in
-    let ln : x .extent .result .width ≤ a .a .width = left-narrow (a .op) (a .a) (a .b) av au bv bu _ (o .operator .ensures) _ _ (x .extent .ensures) (y .extent2 .ensures) _ w in
-    let rn : y .extent2 .result .width ≤ a .b .width = right-narrow (a .op) (a .a) (a .b) av au bv bu _ (o .operator .ensures) _ _ (x .extent .ensures) (y .extent2 .ensures) _ w in
+    let p = y .before .before .before .before .before .before .before .before .before .pre in
     let e = m .least .ensures in (
-      (omega (arith, s .pre .0 .0 .count), omega (arith, s .pre .0 .1 .count)),
+      (few y _ e _ _ (inl refl) (p .0 .0 .count), few y _ e _ _ (inl refl) (p .0 .1 .count)),
       (
-        (omega (arith, s .pre .1 .0 .0 .count), omega (arith, s .pre .1 .0 .1 .count)),
-        (omega (arith, w, s .pre .1 .1 .1 .0), omega (arith, w, s .pre .1 .1 .1 .1)),
+        (few y _ e _ _ (inr (inl refl)) (p .1 .0 .0 .count), few y _ e _ _ (inr (inl refl)) (p .1 .0 .1 .count)),
+        (few y _ e _ _ (inr (inr refl)) (p .1 .1 .1 .0), few y _ e _ _ (inr (inr refl)) (p .1 .1 .1 .1)),
       ),
     )
 
 loop-holds : tie.Need-loop-holds Inv-loop μ-loop
-loop-holds c =
-    let g = c .before .before .before .before in
+loop-holds d =
+    let g = d .before .before .before .before in
     let m = g .before .before .before in
-    let y = m .before .before .before in
-    let x = y .before in
-    let o = x .before in
+    let c = m .before .before .before in
+    let o = c .before .before in
     let s = o .before .before .before .before .before .before .before in
     let a = s .args in
-    let av = a .av .now in
-    let au = a .au .now in
-    let bv = a .bv .now in
-    let bu = a .bu .now in
-    let w = s .pre .1 .1 .0 in
     let n = ap (λ (k : ℕ). k / 64) (m .least .ensures) in
     let h = g .join-whole .ensures in (
-      value-written (a .op) (a .a) (a .b) av au bv bu _ (o .operator .ensures) _ _ (x .extent .ensures) (y .extent2 .ensures) _ w _ _ _ _ (h .0 .long ∙ s .pre .1 .1 .1 .0) n (h .0),
-      unknown-written (a .op) (a .a) (a .b) av au bv bu _ (o .operator .ensures) _ _ (x .extent .ensures) (y .extent2 .ensures) _ w _ _ _ _ (h .1 .long ∙ s .pre .1 .1 .1 .1) n (h .1),
+      value-written (a .op) (a .a) (a .b) (a .av .now) (a .au .now) (a .bv .now) (a .bu .now) _ (o .operator .ensures) _ _ (c .before .extent .ensures) (c .extent2 .ensures) _ (s .pre .1 .1 .0) _ _ _ _ (h .0 .long ∙ s .pre .1 .1 .1 .0) n (h .0),
+      unknown-written (a .op) (a .a) (a .b) (a .av .now) (a .au .now) (a .bv .now) (a .bu .now) _ (o .operator .ensures) _ _ (c .before .extent .ensures) (c .extent2 .ensures) _ (s .pre .1 .1 .0) _ _ _ _ (h .1 .long ∙ s .pre .1 .1 .1 .1) n (h .1),
       omega (arith, s .fits .width),
     )
 
 operand-word-requires : tie.Need-operand-word-requires Inv-loop μ-loop
 operand-word-requires c κs =
-    let m = c .before .before .before .before .before .before .before .before .before in
-    let y = m .before .before .before in
-    let x = y .before in
-    let o = x .before in
-    let s = o .before .before .before .before .before .before .before in
-    let a = s .args in
-    let av = a .av .now in
-    let au = a .au .now in
-    let bv = a .bv .now in
-    let bu = a .bu .now in
-    let w = s .pre .1 .1 .0 in
-    let ln : x .extent .result .width ≤ a .a .width = left-narrow (a .op) (a .a) (a .b) av au bv bu _ (o .operator .ensures) _ _ (x .extent .ensures) (y .extent2 .ensures) _ w in
-    (omega (arith, s .pre .0 .0 .count), omega (arith, s .pre .0 .1 .count))
+    let y = c .before .before .before .before .before .before .before .before .before .before .before .before in
+    let p = y .before .before .before .before .before .before .before .before .before .pre in
+    (left-long y _ (p .0 .0 .count), left-long y _ (p .0 .1 .count))
 
 operand-word-requires-2 : tie.Need-operand-word-requires-2 Inv-loop μ-loop
 operand-word-requires-2 c κs =
-    let m = c .before .before .before .before .before .before .before .before .before .before in
-    let y = m .before .before .before in
-    let x = y .before in
-    let o = x .before in
-    let s = o .before .before .before .before .before .before .before in
-    let a = s .args in
-    let av = a .av .now in
-    let au = a .au .now in
-    let bv = a .bv .now in
-    let bu = a .bu .now in
-    let w = s .pre .1 .1 .0 in
-    let rn : y .extent2 .result .width ≤ a .b .width = right-narrow (a .op) (a .a) (a .b) av au bv bu _ (o .operator .ensures) _ _ (x .extent .ensures) (y .extent2 .ensures) _ w in
-    (omega (arith, s .pre .1 .0 .0 .count), omega (arith, s .pre .1 .0 .1 .count))
+    let y = c .before .before .before .before .before .before .before .before .before .before .before .before .before in
+    let p = y .before .before .before .before .before .before .before .before .before .pre in
+    (right-long y _ (p .1 .0 .0 .count), right-long y _ (p .1 .0 .1 .count))
 
 lanes-requires : tie.Need-lanes-requires Inv-loop μ-loop
 lanes-requires c κs = search needs
@@ -189,24 +183,14 @@ same-length-2 c =
     l .loop .inv .1 .long ∙ sym (o .before .before .before .before .before .before .before .pre .1 .1 .1 .1)
 
 returns : tie.Need-returns Inv-loop μ-loop
-returns c =
-    let l = c .before in
-    let m = l .before .before .before .before .before .before .before .before in
-    let y = m .before .before .before in
-    let x = y .before in
-    let o = x .before in
+returns d =
+    let l = d .before in
+    let c = l .before .before .before .before .before .before .before .before .before .before .before in
+    let o = c .before .before in
     let s = o .before .before .before .before .before .before .before in
     let a = s .args in
-    let av = a .av .now in
-    let au = a .au .now in
-    let bv = a .bv .now in
-    let bu = a .bu .now in
-    let w = s .pre .1 .1 .0 in
-    let R = joinedOver (a .op) (a .width) (x .extent .result) (lent av au) (y .extent2 .result) (lent bv bu) in
-    let e = ap wordCount (sym (length-tabulate (a .width) _)) in
     let h = l .loop .inv in
-    ap₂ lent (plane-done valueDigit R _ _ _ (h .0) (omega (arith, h .0 .long)) e) (plane-done unknownDigit R _ _ _ (h .1) (omega (arith, h .0 .long)) e)
-    ∙ ap planesOf (same-bits (a .op) (a .a) (a .b) av au bv bu _ (o .operator .ensures) _ _ (x .extent .ensures) (y .extent2 .ensures) _ w)
+    all-written (a .op) (a .a) (a .b) (a .av .now) (a .au .now) (a .bv .now) (a .bu .now) _ (o .operator .ensures) _ _ (c .before .extent .ensures) (c .extent2 .ensures) _ (s .pre .1 .1 .0) _ _ _ (h .0) (h .1) (omega (arith, h .0 .long))
 
 pub join-planes-spec : {M : Type 1} → statement M
 join-planes-spec =
