@@ -45,28 +45,26 @@ fn lane_marks(op: Comparison, a: Word, b: Word) -> Marks
     let au = a.unknown;
     let bv = b.value;
     let bu = b.unknown;
-    let codes = (av ^ bv) | (au ^ bu);
-    let unknown = au | bu;
-    let z = (av & au) | (bv & bu);
+    let differ = (av ^ bv) & !(au | bu);
     match op {
         Comparison::Equal => Marks {
-            apart: (av ^ bv) & !unknown,
-            doubt: unknown,
+            apart: differ,
+            doubt: au | bu,
         },
         Comparison::CaseEqual => Marks {
-            apart: codes,
+            apart: (av ^ bv) | (au ^ bu),
             doubt: 0,
         },
         Comparison::CasezEqual => Marks {
-            apart: codes & !z,
+            apart: ((av ^ bv) | (au ^ bu)) & !((av & au) | (bv & bu)),
             doubt: 0,
         },
         Comparison::CasexEqual => Marks {
-            apart: codes & !unknown,
+            apart: differ,
             doubt: 0,
         },
         Comparison::WildcardEqual => Marks {
-            apart: codes & !bu & !au,
+            apart: differ,
             doubt: au & !bu,
         },
     }

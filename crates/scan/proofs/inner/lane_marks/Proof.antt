@@ -22,13 +22,16 @@ enum-told-4 c = search needs
 enum-told-5 : tie.Need-enum-told-5
 enum-told-5 c = search needs
 
+abbrev differ : Lane
+differ = and (xor av bv) (neg (or au bu))
+
 abbrev codes : Lane
 codes = or (xor av bv) (xor au bu)
 
 returns : tie.Need-returns
 returns c =
     let a = c .before .before .args in
-    rw (c .enum-told .given .1) (both Equal (and (xor av bv) (neg (or au bu))) (or au bu) tt tt (a .a) (a .b) (search needs) (search needs) (search needs) (search needs))
+    rw (c .enum-told .given .1) (both Equal differ (or au bu) tt tt (a .a) (a .b) (search needs) (search needs) (search needs) (search needs))
 
 returns-2 : tie.Need-returns-2
 returns-2 c =
@@ -43,12 +46,12 @@ returns-3 c =
 returns-4 : tie.Need-returns-4
 returns-4 c =
     let a = c .before .before .args in
-    rw (c .enum-told4 .given .1) (both CasexEqual (and codes (neg (or au bu))) none tt tt (a .a) (a .b) (search needs) (search needs) (search needs) (search needs))
+    rw (c .enum-told4 .given .1) (both CasexEqual differ none tt tt (a .a) (a .b) (search needs) (search needs) (search needs) (search needs))
 
 returns-5 : tie.Need-returns-5
 returns-5 c =
     let a = c .before .before .args in
-    rw (c .enum-told5 .given .1) (both WildcardEqual (and (and codes (neg bu)) (neg au)) (and au (neg bu)) tt tt (a .a) (a .b) (search needs) (search needs) (search needs) (search needs))
+    rw (c .enum-told5 .given .1) (both WildcardEqual differ (and au (neg bu)) tt tt (a .a) (a .b) (search needs) (search needs) (search needs) (search needs))
 
 pub lane-marks-spec : {M : Type 1} → statement M
 lane-marks-spec =
