@@ -86,38 +86,21 @@ pub fn operand_count(op: Op) -> usize
         Family::Join(_) => 2,
         Family::Not => 1,
         Family::Answer(q) => match q {
-            Question::ReduceAnd => 1,
-            Question::ReduceOr => 1,
-            Question::ReduceXor => 1,
-            Question::Compare(_) => 2,
-            Question::LogicAnd => 2,
-            Question::LogicOr => 2,
+            Question::ReduceAnd | Question::ReduceOr | Question::ReduceXor => 1,
+            Question::Compare(_) | Question::LogicAnd | Question::LogicOr => 2,
         },
         Family::Select => 3,
         Family::Insert => 2,
     }
 }
 
-// Whether two vectors cannot be the arms of a select: their widths differ, or one is a fill.
-fn arms_differ(b: Header, c: Header) -> bool
-    ensures { λ r. ⌜ r ≡ armsDiffer b c ⌝ }
-{
-    if b.width != c.width {
-        return true;
-    }
-    b.is_fill | c.is_fill
-}
-
-// Whether an op refuses its arms; only select has any.
+// Whether an op refuses its arms: their widths differ, or one is a fill. Only select has any.
 pub fn arms_refused(op: Op, b: Header, c: Header) -> bool
     ensures { λ r. ⌜ r ≡ armsRefused op b c ⌝ }
 {
     match family_of(op) {
-        Family::Join(_) => false,
-        Family::Not => false,
-        Family::Answer(_) => false,
-        Family::Select => arms_differ(b, c),
-        Family::Insert => false,
+        Family::Join(_) | Family::Not | Family::Answer(_) | Family::Insert => false,
+        Family::Select => (b.width != c.width) | b.is_fill | c.is_fill,
     }
 }
 

@@ -1,14 +1,30 @@
 -- `ops::arms_refused`: by the family.
-use mathlib.Core.Path.{_≡_, sym, ap, _∙_}
+use mathlib.Core.Path.{_≡_, refl, sym, ap, _∙_}
+use mathlib.Core.Bool.{false, not, or-assoc}
+use mathlib.Core.List.{[], _∷_}
+use lib.Dec.{eqb}
+use denote.Enum.Declared.{tagOf}
+use types.Run.{OneOf, miss}
+use Rattle.value.specs.declared.Header.{Header}
 use Rattle.ops.specs.declared.Family.{Family}
+use Rattle.ops.specs.declared.Family.the-variants as family
 use Rattle.ops.specs.Ops.{familyRefused, armsRefused}
+use Rattle.ops.proofs.Family.{the-type}
 use borrow.Author.Needs.{needs}
 use Rattle.ops.proofs.arms_refused.Statement.{statement}
 use Rattle.ops.proofs.arms_refused.Tie as tie
 
--- what follows from the family that was told
-told : (c : tie.After-family-of) (k : Family) → c .family-of .result ≡ k → let a = c .before .args in familyRefused k (a .b) (a .c) ≡ armsRefused (a .op) (a .b) (a .c)
-told c k e = let a = c .before .args in ap (λ (k : Family). familyRefused k (a .b) (a .c)) (sym e ∙ c .family-of .ensures)
+-- a family without arms, by its place among all
+no-arms : (k : Family) (b c : Header) → OneOf (0 ∷ 1 ∷ 2 ∷ 4 ∷ []) (tagOf the-type k) → false ≡ familyRefused k b c
+no-arms (family.Join j) b c o = refl
+no-arms family.Not b c o = refl
+no-arms (family.Answer q) b c o = refl
+no-arms family.Select b c o = absurd (miss (0 ∷ 1 ∷ 2 ∷ 4 ∷ []) 3 tt o)
+no-arms family.Insert b c o = refl
+
+-- the family told is that of the op
+told : (c : tie.After-family-of) → let a = c .before .args in familyRefused (c .family-of .result) (a .b) (a .c) ≡ armsRefused (a .op) (a .b) (a .c)
+told c = let a = c .before .args in ap (λ (k : Family). familyRefused k (a .b) (a .c)) (c .family-of .ensures)
 
 family-of-requires : tie.Need-family-of-requires
 family-of-requires c κs = search needs
@@ -16,49 +32,18 @@ family-of-requires c κs = search needs
 enum-told : tie.Need-enum-told
 enum-told c = search needs
 
-enum-told-2 : tie.Need-enum-told-2
-enum-told-2 c = search needs
-
-enum-told-3 : tie.Need-enum-told-3
-enum-told-3 c = search needs
-
-enum-told-4 : tie.Need-enum-told-4
-enum-told-4 c = search needs
-
-arms-differ-requires : tie.Need-arms-differ-requires
-arms-differ-requires c κs = search needs
-
-enum-told-5 : tie.Need-enum-told-5
-enum-told-5 c = search needs
-
 returns : tie.Need-returns
-returns c = told (c .before .before) _ (c .enum-told .given .1)
+returns c =
+    let a = c .before .before .args in
+    no-arms (c .before .family-of .result) (a .b) (a .c) (c .match .keys1) ∙ told (c .before)
 
 returns-2 : tie.Need-returns-2
-returns-2 c = told (c .before .before) _ (c .enum-told2 .given .1)
-
-returns-3 : tie.Need-returns-3
-returns-3 c = told (c .before .before) _ (c .enum-told3 .given .1)
-
-returns-4 : tie.Need-returns-4
-returns-4 c = c .arms-differ .ensures ∙ told (c .before .before .before) _ (c .before .enum-told4 .given .1)
-
-returns-5 : tie.Need-returns-5
-returns-5 c = told (c .before .before) _ (c .enum-told5 .given .1)
+returns-2 c =
+    let t = c .before .before .before .before in
+    let a = t .before .before .before .args in
+    or-assoc (not (eqb (a .b .width) (a .c .width))) (a .b .«is_fill») (a .c .«is_fill»)
+    ∙ ap (λ (k : Family). familyRefused k (a .b) (a .c)) (sym (t .enum-told .given .1))
+    ∙ told (t .before .before)
 
 pub arms-refused-spec : {M : Type 1} → statement M
-arms-refused-spec =
-    tie.close
-    (tie.spec
-    family-of-requires
-    enum-told
-    enum-told-2
-    enum-told-3
-    enum-told-4
-    arms-differ-requires
-    enum-told-5
-    returns
-    returns-2
-    returns-3
-    returns-4
-    returns-5)
+arms-refused-spec = tie.close (tie.spec family-of-requires enum-told returns returns-2)
