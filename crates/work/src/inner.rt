@@ -1,26 +1,29 @@
 // The ops worked out, into planes lent for the result. These ask their caller for accepted operands and for planes of the result's word count.
 use bit::LogicBit;
 use fold::Truth;
-use fold::inner::and_bits;
-use fold::inner::or_bits;
-use fold::inner::truth;
+use fold::inner::contains;
 use fold::inner::xor_bits;
 use join::inner::join_planes;
 use join::inner::not_planes;
 use lanes::Bitwise;
+use lanes::lanes;
+use lanes::not_word;
 use ops::Family;
 use ops::Op;
 use ops::Question;
+use scan::inner::compare;
 use value::Header;
+use words::Word;
+use words::inner::filled;
 use words::inner::operand_word;
 ghost use mathlib.Core.Path.{_≡_};
 ghost use mathlib.Core.Bool.{false};
 ghost use mathlib.Core.List.{[], _∷_};
 ghost use lib.ListN.{length};
-ghost use Rattle.words.specs.Planes.{wordCount, lent, planesOf, Plane};
+ghost use Rattle.words.specs.Planes.{wordCount, bitOf, lent, planesOf, Plane};
 ghost use Rattle.value.specs.Checks.{vector};
-ghost use Rattle.fold.specs.Fold.{truthOf};
-ghost use Rattle.ops.specs.Ops.{armsRefused, opHeader, vectorTruth, answerBit, selected, inserted, opBits};
+ghost use Rattle.fold.specs.Fold.{truthOf, truthBit};
+ghost use Rattle.ops.specs.Ops.{armsRefused, opHeader, answerBit, selected, inserted, opBits};
 
 // Copies the words of a plane into another of the same length.
 fn copy_words(from: &[u64], to: &mut [u64])
@@ -34,123 +37,52 @@ fn copy_words(from: &[u64], to: &mut [u64])
     }
 }
 
-// Copies both planes of a vector.
-pub fn copy_planes(av: &[u64], au: &[u64], ov: &mut [u64], ou: &mut [u64])
-    requires { ⌜ (length (now ov) ≡ length (now av)) × (length (now ou) ≡ length (now au)) ⌝ }
-    ensures { λ _. ⌜ lent (now (ov .exit)) (now (ou .exit)) ≡ lent (now (av .entry)) (now (au .entry)) ⌝ }
+// A word that holds a truth as a bit, at its lowest place.
+fn truth_word(t: Truth) -> Word
+    ensures { λ r. ⌜ bitOf r 0 ≡ truthBit t ⌝ }
 {
-    copy_words(av, ov);
-    copy_words(au, ou);
+    match t {
+        Truth::False => Word {
+            value: 0,
+            unknown: 0,
+        },
+        Truth::True => Word {
+            value: 1,
+            unknown: 0,
+        },
+        Truth::Unknown => Word {
+            value: 0,
+            unknown: 1,
+        },
+    }
 }
 
-// Writes a vector of one bit.
-fn write_bit(b: LogicBit, ov: &mut [u64], ou: &mut [u64])
-    requires { ⌜ (length (now ov) ≡ 1) × (length (now ou) ≡ 1) ⌝ }
-    ensures { λ _. ⌜ lent (now (ov .exit)) (now (ou .exit)) ≡ planesOf (b ∷ []) ⌝ }
-{
-    let n = bit::to_code(b) as u64;
-    ov[0] = n % 2;
-    ou[0] = n / 2;
-}
-
-// The truth of a vector as a bit.
-fn vector_truth(a: Header, av: &[u64], au: &[u64]) -> LogicBit
-    requires { ⌜ Plane (a .width) (now av) × Plane (a .width) (now au) ⌝ }
-    ensures { λ r. ⌜ r ≡ vectorTruth (vector a (lent (now (av .entry)) (now (au .entry)))) ⌝ }
-{
-    let width = a.width;
-    fold::truth_bit(truth(width, av, au))
-}
-
-// The bit that is the answer.
-fn answer(
-    q: Question,
-    a: Header,
-    av: &[u64],
-    au: &[u64],
-    b: Header,
-    bv: &[u64],
-    bu: &[u64],
-) -> LogicBit
+// A word that holds the bit that is the answer, at its lowest place.
+fn answer(q: Question, a: Header, av: &[u64], au: &[u64], b: Header, bv: &[u64], bu: &[u64]) -> Word
     requires { ⌜ Plane (a .width) (now av) × Plane (a .width) (now au) ⌝ }
     requires { ⌜ Plane (b .width) (now bv) × Plane (b .width) (now bu) ⌝ }
-    ensures { λ r. ⌜ r ≡ answerBit q (vector a (lent (now (av .entry)) (now (au .entry)))) (vector b (lent (now (bv .entry)) (now (bu .entry)))) ⌝ }
+    ensures { λ r. ⌜ bitOf r 0 ≡ answerBit q (vector a (lent (now (av .entry)) (now (au .entry)))) (vector b (lent (now (bv .entry)) (now (bu .entry)))) ⌝ }
 {
-    let width = a.width;
     match q {
-        Question::ReduceAnd => and_bits(width, av, au),
-        Question::ReduceOr => or_bits(width, av, au),
-        Question::ReduceXor => xor_bits(width, av, au),
-        Question::Compare(op) => scan::inner::compare(op, a, av, au, b, bv, bu),
+        Question::ReduceAnd => not_word(truth_word(contains(a.width, av, au, false))),
+        Question::ReduceOr => truth_word(contains(a.width, av, au, true)),
+        Question::ReduceXor => filled(xor_bits(a.width, av, au)),
+        Question::Compare(op) => filled(compare(op, a, av, au, b, bv, bu)),
         Question::LogicAnd => {
-            let x = vector_truth(a, av, au);
-            let y = vector_truth(b, bv, bu);
-            bit::and(x, y)
+            let x = truth_word(contains(a.width, av, au, true));
+            let y = truth_word(contains(b.width, bv, bu, true));
+            lanes(Bitwise::And, x, y)
         }
         Question::LogicOr => {
-            let x = vector_truth(a, av, au);
-            let y = vector_truth(b, bv, bu);
-            bit::or(x, y)
+            let x = truth_word(contains(a.width, av, au, true));
+            let y = truth_word(contains(b.width, bv, bu, true));
+            lanes(Bitwise::Or, x, y)
         }
     }
 }
 
-// The arm b where a is true, c where it is false, and both merged where its truth is unknown.
-fn select(
-    a: Header,
-    av: &[u64],
-    au: &[u64],
-    b: Header,
-    bv: &[u64],
-    bu: &[u64],
-    c: Header,
-    cv: &[u64],
-    cu: &[u64],
-    ov: &mut [u64],
-    ou: &mut [u64],
-)
-    requires { ⌜ Plane (a .width) (now av) × Plane (a .width) (now au) ⌝ }
-    requires { ⌜ Plane (b .width) (now bv) × Plane (b .width) (now bu) ⌝ }
-    requires { ⌜ Plane (c .width) (now cv) × Plane (c .width) (now cu) ⌝ }
-    requires { ⌜ c .width ≡ b .width ⌝ }
-    requires { ⌜ (length (now ov) ≡ wordCount (b .width)) × (length (now ou) ≡ wordCount (b .width)) ⌝ }
-    ensures { λ _. ⌜ lent (now (ov .exit)) (now (ou .exit)) ≡ planesOf (selected (truthOf (vector a (lent (now (av .entry)) (now (au .entry))) .bits)) (vector b (lent (now (bv .entry)) (now (bu .entry)))) (vector c (lent (now (cv .entry)) (now (cu .entry))))) ⌝ }
-{
-    let condition = a.width;
-    let width = b.width;
-    match truth(condition, av, au) {
-        Truth::True => copy_planes(bv, bu, ov, ou),
-        Truth::False => copy_planes(cv, cu, ov, ou),
-        Truth::Unknown => join_planes(Bitwise::Merge, b, bv, bu, c, cv, cu, width, ov, ou),
-    }
-}
-
-// The lowest bits of b in a, from `pos` on.
-fn insert(
-    a: Header,
-    av: &[u64],
-    au: &[u64],
-    b: Header,
-    bv: &[u64],
-    bu: &[u64],
-    pos: usize,
-    ov: &mut [u64],
-    ou: &mut [u64],
-)
-    requires { ⌜ Plane (a .width) (now av) × Plane (a .width) (now au) ⌝ }
-    requires { ⌜ Plane (b .width) (now bv) × Plane (b .width) (now bu) ⌝ }
-    requires { ⌜ (length (now ov) ≡ wordCount (a .width)) × (length (now ou) ≡ wordCount (a .width)) ⌝ }
-    ensures { λ _. ⌜ lent (now (ov .exit)) (now (ou .exit)) ≡ planesOf (inserted (vector a (lent (now (av .entry)) (now (au .entry)))) (vector b (lent (now (bv .entry)) (now (bu .entry)))) pos) ⌝ }
-{
-    let width = a.width;
-    let from = b.width;
-    let n = from as usize;
-    let bits = operand_word(bv, bu, from, 0, LogicBit::Zero);
-    copy_planes(av, au, ov, ou);
-    bits::inner::splice64(width, ov, ou, pos, bits, n);
-}
-
-// The op on accepted operands; one that it does not name may be any. `pos` is the position of insert.
+// The op on accepted operands; one that it does not name may be any. A select is the arm that its truth names, and merges both only where the
+// truth is unknown; an insert puts the lowest bits of b into a, from `pos` on.
 pub fn work(
     op: Op,
     a: Header,
@@ -181,9 +113,25 @@ pub fn work(
         Family::Not => not_planes(a.width, av, au, ov, ou),
         Family::Answer(q) => {
             let x = answer(q, a, av, au, b, bv, bu);
-            write_bit(x, ov, ou)
+            ov[0] = x.value % 2;
+            ou[0] = x.unknown % 2;
         }
-        Family::Select => select(a, av, au, b, bv, bu, c, cv, cu, ov, ou),
-        Family::Insert => insert(a, av, au, b, bv, bu, pos, ov, ou),
+        Family::Select => match contains(a.width, av, au, true) {
+            Truth::True => {
+                copy_words(bv, ov);
+                copy_words(bu, ou)
+            }
+            Truth::False => {
+                copy_words(cv, ov);
+                copy_words(cu, ou)
+            }
+            Truth::Unknown => join_planes(Bitwise::Merge, b, bv, bu, c, cv, cu, b.width, ov, ou),
+        },
+        Family::Insert => {
+            let bits = operand_word(bv, bu, b.width, 0, LogicBit::Zero);
+            copy_words(av, ov);
+            copy_words(au, ou);
+            bits::inner::splice64(a.width, ov, ou, pos, bits, b.width as usize)
+        }
     }
 }

@@ -1,10 +1,17 @@
 -- `work::inner::answer`: by the question.
 use mathlib.Core.Path.{_≡_, sym, ap, ap₂, _∙_}
-use Rattle.bit.specs.Rules.{andBit, orBit}
-use Rattle.words.specs.Planes.{lent}
+use native.Mathlib.Omega.{arith}
+use Rattle.bit.specs.declared.LogicBit.{LogicBit}
+use Rattle.bit.specs.Rules.{andBit, orBit, notBit}
+use Rattle.words.specs.declared.Word.{Word}
+use Rattle.words.specs.Planes.{fromPlanes, packed, bitOf, lent}
+use Rattle.bits.proofs.Splice.{packed-bit}
 use Rattle.value.specs.Checks.{vector}
+use Rattle.fold.specs.Fold.{truthBit}
+use Rattle.fold.proofs.Folds.{truth-or, contains-and}
 use Rattle.ops.specs.declared.Question.{Question}
 use Rattle.ops.specs.Ops.{answerBit}
+use Rattle.work.proofs.Words.{lane-bit, lane-one}
 use borrow.Author.Needs.{needs}
 use Rattle.work.proofs.inner.answer.Statement.{statement}
 use Rattle.work.proofs.inner.answer.Tie as tie
@@ -17,17 +24,34 @@ told c q e =
     let a = c .before .before .before .before .args in
     ap (λ (q : Question). answerBit q (vector (a .a) (lent (a .av .now) (a .au .now))) (vector (a .b) (lent (a .bv .now) (a .bu .now)))) (sym e)
 
+-- the lowest place of a word
+low : {x y : Word} → x ≡ y → bitOf x 0 ≡ bitOf y 0
+low e = ap (λ (x : Word). bitOf x 0) e
+
+-- every place of a word holds the bit
+everywhere : {x : Word} {b : LogicBit} → x ≡ packed (λ j. b) → bitOf x 0 ≡ b
+everywhere {b = b} e = low e ∙ packed-bit (λ j. b) 0 (omega arith)
+
 enum-told : tie.Need-enum-told
 enum-told c = search needs
 
-and-bits-requires : tie.Need-and-bits-requires
-and-bits-requires c κs = search needs
+contains-requires : tie.Need-contains-requires
+contains-requires c κs = search needs
+
+truth-word-requires : tie.Need-truth-word-requires
+truth-word-requires c κs = search needs
+
+not-word-requires : tie.Need-not-word-requires
+not-word-requires c κs = search needs
 
 enum-told-2 : tie.Need-enum-told-2
 enum-told-2 c = search needs
 
-or-bits-requires : tie.Need-or-bits-requires
-or-bits-requires c κs = search needs
+contains-requires-2 : tie.Need-contains-requires-2
+contains-requires-2 c κs = search needs
+
+truth-word-requires-2 : tie.Need-truth-word-requires-2
+truth-word-requires-2 c κs = search needs
 
 enum-told-3 : tie.Need-enum-told-3
 enum-told-3 c = search needs
@@ -35,80 +59,133 @@ enum-told-3 c = search needs
 xor-bits-requires : tie.Need-xor-bits-requires
 xor-bits-requires c κs = search needs
 
+filled-requires : tie.Need-filled-requires
+filled-requires c κs = search needs
+
 enum-known-q : tie.Need-enum-known-q
 enum-known-q c = search needs
 
 compare-requires : tie.Need-compare-requires
 compare-requires c κs = search needs
 
+filled-requires-2 : tie.Need-filled-requires-2
+filled-requires-2 c κs = search needs
+
 enum-told-4 : tie.Need-enum-told-4
 enum-told-4 c = search needs
 
-vector-truth-requires : tie.Need-vector-truth-requires
-vector-truth-requires c κs = search needs
+contains-requires-3 : tie.Need-contains-requires-3
+contains-requires-3 c κs = search needs
 
-vector-truth-requires-2 : tie.Need-vector-truth-requires-2
-vector-truth-requires-2 c κs = search needs
+truth-word-requires-3 : tie.Need-truth-word-requires-3
+truth-word-requires-3 c κs = search needs
 
-and-requires : tie.Need-and-requires
-and-requires c κs = search needs
+contains-requires-4 : tie.Need-contains-requires-4
+contains-requires-4 c κs = search needs
+
+truth-word-requires-4 : tie.Need-truth-word-requires-4
+truth-word-requires-4 c κs = search needs
+
+lanes-requires : tie.Need-lanes-requires
+lanes-requires c κs = search needs
 
 enum-told-5 : tie.Need-enum-told-5
 enum-told-5 c = search needs
 
-vector-truth-requires-3 : tie.Need-vector-truth-requires-3
-vector-truth-requires-3 c κs = search needs
+contains-requires-5 : tie.Need-contains-requires-5
+contains-requires-5 c κs = search needs
 
-vector-truth-requires-4 : tie.Need-vector-truth-requires-4
-vector-truth-requires-4 c κs = search needs
+truth-word-requires-5 : tie.Need-truth-word-requires-5
+truth-word-requires-5 c κs = search needs
 
-or-requires : tie.Need-or-requires
-or-requires c κs = search needs
+contains-requires-6 : tie.Need-contains-requires-6
+contains-requires-6 c κs = search needs
+
+truth-word-requires-6 : tie.Need-truth-word-requires-6
+truth-word-requires-6 c κs = search needs
+
+lanes-requires-2 : tie.Need-lanes-requires-2
+lanes-requires-2 c κs = search needs
 
 returns : tie.Need-returns
-returns c = c .and-bits .ensures ∙ told (c .before .before .before) _ (c .before .enum-told .given .1)
+returns c =
+    let w = c .before in
+    let h = w .before in
+    let k = h .before .before .before in
+    let a = k .before .before .before .before .args in
+    low (c .not-word .ensures)
+    ∙ lane-one notBit (w .truth-word .result)
+    ∙ ap notBit (w .truth-word .ensures ∙ ap truthBit (h .contains .ensures))
+    ∙ contains-and (fromPlanes (a .a .width) (a .av .now) (a .au .now))
+    ∙ told k _ (h .before .enum-told .given .1)
 
 returns-2 : tie.Need-returns-2
-returns-2 c = c .or-bits .ensures ∙ told (c .before .before .before) _ (c .before .enum-told2 .given .1)
+returns-2 c =
+    let h = c .before in
+    let k = h .before .before .before in
+    let a = k .before .before .before .before .args in
+    c .truth-word2 .ensures
+    ∙ ap truthBit (h .contains2 .ensures)
+    ∙ truth-or (fromPlanes (a .a .width) (a .av .now) (a .au .now))
+    ∙ told k _ (h .before .enum-told2 .given .1)
 
 returns-3 : tie.Need-returns-3
-returns-3 c = c .xor-bits .ensures ∙ told (c .before .before .before) _ (c .before .enum-told3 .given .1)
+returns-3 c =
+    let x = c .before in
+    everywhere (c .filled .ensures) ∙ x .xor-bits .ensures ∙ told (x .before .before .before) _ (x .before .enum-told3 .given .1)
 
 returns-4 : tie.Need-returns-4
-returns-4 c = c .compare .ensures ∙ told (c .before .before .before .before) _ (c .before .before .q .given .1)
+returns-4 c =
+    let x = c .before in
+    everywhere (c .filled2 .ensures) ∙ x .compare .ensures ∙ told (x .before .before .before .before) _ (x .before .before .q .given .1)
 
 returns-5 : tie.Need-returns-5
 returns-5 c =
     let y = c .before in
-    let x = y .before in
-    c .and .ensures ∙ ap₂ andBit (x .vector-truth .ensures) (y .vector-truth2 .ensures) ∙ told (x .before .before .before) _ (x .before .enum-told4 .given .1)
+    let x = y .before .before in
+    low (c .lanes .ensures)
+    ∙ lane-bit andBit (x .truth-word3 .result) (y .truth-word4 .result)
+    ∙ ap₂ andBit (x .truth-word3 .ensures ∙ ap truthBit (x .before .contains3 .ensures)) (y .truth-word4 .ensures ∙ ap truthBit (y .before .contains4 .ensures))
+    ∙ told (x .before .before .before .before) _ (x .before .before .enum-told4 .given .1)
 
 returns-6 : tie.Need-returns-6
 returns-6 c =
     let y = c .before in
-    let x = y .before in
-    c .or .ensures ∙ ap₂ orBit (x .vector-truth3 .ensures) (y .vector-truth4 .ensures) ∙ told (x .before .before .before) _ (x .before .enum-told5 .given .1)
+    let x = y .before .before in
+    low (c .lanes2 .ensures)
+    ∙ lane-bit orBit (x .truth-word5 .result) (y .truth-word6 .result)
+    ∙ ap₂ orBit (x .truth-word5 .ensures ∙ ap truthBit (x .before .contains5 .ensures)) (y .truth-word6 .ensures ∙ ap truthBit (y .before .contains6 .ensures))
+    ∙ told (x .before .before .before .before) _ (x .before .before .enum-told5 .given .1)
 
 pub answer-spec : {M : Type 1} → statement M
 answer-spec =
     tie.close
     (tie.spec
     enum-told
-    and-bits-requires
+    contains-requires
+    truth-word-requires
+    not-word-requires
     enum-told-2
-    or-bits-requires
+    contains-requires-2
+    truth-word-requires-2
     enum-told-3
     xor-bits-requires
+    filled-requires
     enum-known-q
     compare-requires
+    filled-requires-2
     enum-told-4
-    vector-truth-requires
-    vector-truth-requires-2
-    and-requires
+    contains-requires-3
+    truth-word-requires-3
+    contains-requires-4
+    truth-word-requires-4
+    lanes-requires
     enum-told-5
-    vector-truth-requires-3
-    vector-truth-requires-4
-    or-requires
+    contains-requires-5
+    truth-word-requires-5
+    contains-requires-6
+    truth-word-requires-6
+    lanes-requires-2
     returns
     returns-2
     returns-3
