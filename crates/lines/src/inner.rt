@@ -1,11 +1,11 @@
 // The writers, each from a place of the buffer on; they give the place behind what they wrote and ask their caller for room.
 use crate::bit_byte;
 ghost use mathlib.Core.Path.{_≡_};
-ghost use mathlib.Core.List.{_++_, reverse};
+ghost use mathlib.Core.List.{_++_};
 ghost use Prim.Native.Nat.{_+_, _≤_};
 ghost use lib.ListN.{length};
 ghost use Rattle.words.specs.Planes.{wordCount, fromPlanes};
-ghost use Rattle.text.specs.Write.{texts, decimal, numberText, bitText, bitsText};
+ghost use Rattle.text.specs.Write.{decimal, numberText, bitsText};
 ghost use Rattle.lines.specs.Buffer.{buffer, put};
 
 // All of `bytes`.
@@ -42,24 +42,8 @@ pub fn put_number_line(out: &mut [u8], at: usize, key: &[u8], n: u32) -> usize
 {
     let i = put_bytes(out, at, key);
     let j = put_number(out, i, n);
-    put_bytes(out, j, b"\n")
-}
-
-// The bits of a vector, highest first.
-fn put_bits(out: &mut [u8], at: usize, width: u32, value: &[u64], unknown: &[u64]) -> usize
-    requires { ⌜ at + width ≤ length (now out) ⌝ }
-    requires { ⌜ (length (now value) ≡ wordCount width) × (length (now unknown) ≡ wordCount width) ⌝ }
-    ensures { λ r. ⌜ buffer (now (out .exit)) r ≡ put (buffer (now (out .entry)) at) (texts bitText (reverse (fromPlanes width (now (value .entry)) (now (unknown .entry))))) ⌝ }
-{
-    let mut i = at;
-    let mut left = width as usize;
-    while 0 < left {
-        left -= 1;
-        let b = bits::inner::get(width, value, unknown, left);
-        out[i] = bit_byte(b);
-        i += 1;
-    }
-    i
+    out[j] = 10;
+    j + 1
 }
 
 // A line of `key` and the bits of a vector, highest first.
@@ -75,7 +59,13 @@ pub fn put_bits_line(
     requires { ⌜ (length (now value) ≡ wordCount width) × (length (now unknown) ≡ wordCount width) ⌝ }
     ensures { λ r. ⌜ buffer (now (out .exit)) r ≡ put (buffer (now (out .entry)) at) (now (key .entry) ++ bitsText (fromPlanes width (now (value .entry)) (now (unknown .entry)))) ⌝ }
 {
-    let i = put_bytes(out, at, key);
-    let k = put_bits(out, i, width, value, unknown);
-    put_bytes(out, k, b"\n")
+    let mut i = put_bytes(out, at, key);
+    let mut left = width as usize;
+    while 0 < left {
+        left -= 1;
+        out[i] = bit_byte(bits::inner::get(width, value, unknown, left));
+        i += 1;
+    }
+    out[i] = 10;
+    i + 1
 }
