@@ -1,24 +1,52 @@
 -- The characters of a vector as the digits of words.
+--     byte-value, byte-unknown     what the bit of a character stores in each plane
 --     length-in, bit-in, bit-past     how many bits there are, and which character each is
 --     none, more, small     the number of the first characters, and of one more
 --     word-in, word-at      that number as a word, and as word k of a plane
-use mathlib.Core.Path.{_≡_, refl, sym, ap, _∙_}
+use mathlib.Core.Path.{_≡_, refl, sym, ap, _∙_, subst}
 use mathlib.Core.Logic.{⊎-elim}
+use mathlib.Core.Bool.{Bool, true, false, _||_}
 use mathlib.Core.List.{List, [], _∷_, map, reverse, reverse-cons}
 use Prim.Native.Nat.{ℕ, zero, suc, _+_, _-_, _*_, _^_, _≤_, _<_, min}
 use native.Mathlib.Nat.{pow-le-pow-right, lt-of-lt-of-le}
 use native.Mathlib.Numerals.{add-one}
 use native.Mathlib.Omega.{arith}
+use borrow.Author.Tests.{eqb-true}
+use mir.Val.{boolByte}
+use lib.Dec.{eqb}
 use lib.ListN.{length, getD, take, drop, length-reverse, List·getD-append, List·getD-map, List·getD-eq-default}
 use lib.Seq.{getD-at, getD-take, getD-drop}
 use Rattle.bit.specs.declared.LogicBit.{LogicBit}
 use Rattle.bit.specs.declared.LogicBit.the-variants.{Zero}
 use Rattle.words.specs.Vector.{at, pack}
-use Rattle.words.specs.Planes.{wordOf}
+use Rattle.words.specs.Planes.{valueDigit, unknownDigit, wordOf}
 use Rattle.words.proofs.Digits.{lt-or-ge, pack-cong, pack-lt, pack-bit, pack-ext, bit-above}
 use Rattle.text.specs.Read.{ofByte}
 use Rattle.text.specs.Answers.{bitsIn}
 use Rattle.text.proofs.Vectors.{bits-length}
+
+-- ---- the digits of a character
+
+abbrev either : ℕ → ℕ → ℕ → ℕ
+either c a b = boolByte (eqb c a || eqb c b)
+
+-- by the tests that tell a character
+told : (P : ℕ → Type 0) → P 49 → P 120 → P 122 → (c : ℕ) → (eqb c 49 ≡ false → eqb c 120 ≡ false → eqb c 122 ≡ false → P c) → P c
+told P p q r c other = go (eqb c 49) refl (eqb c 120) refl (eqb c 122) refl
+  where
+    go : (x : Bool) → eqb c 49 ≡ x → (y : Bool) → eqb c 120 ≡ y → (z : Bool) → eqb c 122 ≡ z → P c
+    go true e y f z g = subst P (sym (eqb-true c 49 e)) p
+    go false e true f z g = subst P (sym (eqb-true c 120 f)) q
+    go false e false f true g = subst P (sym (eqb-true c 122 g)) r
+    go false e false f false g = other e f g
+
+pub byte-value : (c : ℕ) → either c 49 122 ≡ valueDigit (ofByte c)
+unfolding ofByte
+byte-value c = told (λ c. either c 49 122 ≡ valueDigit (ofByte c)) refl refl refl c (λ e f g. rw (e, f, g))
+
+pub byte-unknown : (c : ℕ) → either c 120 122 ≡ unknownDigit (ofByte c)
+unfolding ofByte
+byte-unknown c = told (λ c. either c 120 122 ≡ unknownDigit (ofByte c)) refl refl refl c (λ e f g. rw (e, f, g))
 
 -- ---- which character a bit is
 

@@ -5,39 +5,10 @@ ghost use mathlib.Core.Path.{_≡_};
 ghost use Prim.Native.Nat.{_-_, _≤_};
 ghost use lib.ListN.{length};
 ghost use Rattle.words.specs.Vector.{at};
-ghost use Rattle.words.specs.Planes.{wordCount, valueDigit, unknownDigit, packed, lent, planesOf};
-ghost use Rattle.text.specs.Read.{ofByte};
+ghost use Rattle.words.specs.Planes.{wordCount, packed, lent, planesOf};
 ghost use Rattle.text.specs.Answers.{bitsIn};
 
-// What the bit of a character stores in each plane.
-fn digits_of(byte: u8) -> Word
-    ensures { λ r. ⌜ r ≡ record { value = valueDigit (ofByte byte); unknown = unknownDigit (ofByte byte) } ⌝ }
-{
-    if byte == 49 {
-        return Word {
-            value: 1,
-            unknown: 0,
-        };
-    }
-    if byte == 120 {
-        return Word {
-            value: 0,
-            unknown: 1,
-        };
-    }
-    if byte == 122 {
-        return Word {
-            value: 1,
-            unknown: 1,
-        };
-    }
-    Word {
-        value: 0,
-        unknown: 0,
-    }
-}
-
-// The word whose lowest bits are the n characters from a place on.
+// The word whose lowest bits are the n characters from a place on: 1 and z store a 1 in the value plane, x and z in the unknown plane.
 fn read_word(s: &[u8], from: usize, n: usize) -> Word
     requires { ⌜ (n ≤ 64) × (n ≤ length (now s) - from) ⌝ }
     ensures { λ r. ⌜ r ≡ packed (at (bitsIn (now (s .entry)) from n)) ⌝ }
@@ -46,9 +17,9 @@ fn read_word(s: &[u8], from: usize, n: usize) -> Word
     let mut unknown: u64 = 0;
     let mut j = 0;
     while j < n {
-        let d = digits_of(s[from + j]);
-        value = value * 2 + d.value;
-        unknown = unknown * 2 + d.unknown;
+        let c = s[from + j];
+        value = value * 2 + ((c == 49) | (c == 122)) as u64;
+        unknown = unknown * 2 + ((c == 120) | (c == 122)) as u64;
         j += 1;
     }
     Word { value, unknown }
