@@ -8,15 +8,12 @@ use text::Line;
 use text::Place;
 use value::Header;
 ghost use mathlib.Core.Path.{_≡_};
-ghost use mathlib.Core.List.{map};
 ghost use Prim.Native.Nat.{_≤_};
 ghost use lib.ListN.{drop};
 ghost use Rattle.refusal.specs.declared.Refusal.the-variants.{BadFormat};
 ghost use Rattle.refusal.specs.declared.Verdict.the-variants.{Refused};
 ghost use Rattle.text.specs.Read.{many};
-ghost use Rattle.text.specs.Answers.{lineIn};
-ghost use Rattle.opline.specs.OpLine.{nameLine};
-ghost use Rattle.steplist.specs.Listing.{kindKey, kindName, allKinds, input, numbers, step, whole};
+ghost use Rattle.steplist.specs.Listing.{input, numbers, step, whole};
 ghost use Rattle.steplist.specs.Answers.{inputGot, inputsGot, stepGot, stepsGot, listAnswer};
 
 // An input: its header, and the place in the text where its bits stand, highest first.
@@ -77,18 +74,6 @@ const NO_STEP: Step = Step {
     c: 0,
 };
 
-// The line kind=, as the number of u, s or f.
-fn kind_line(s: &[u8], at: usize) -> Line
-    ensures { λ r. ⌜ r ≡ lineIn (now (s .entry)) (nameLine kindKey (map kindName allKinds) (drop at (now (s .entry)))) ⌝ }
-{
-    let Place::At(i) = text::skip(s, at, b"kind=") else {
-        return Line::Broken;
-    };
-    let fill = text::named(s, i, b"f", 2, Line::Broken);
-    let signed = text::named(s, i, b"s", 1, fill);
-    text::named(s, i, b"u", 0, signed)
-}
-
 // The three lines of an input.
 fn read_input(s: &[u8], at: usize) -> InputRead
     ensures { λ r. ⌜ inputGot (now (s .entry)) r ≡ input (drop at (now (s .entry))) ⌝ }
@@ -96,7 +81,7 @@ fn read_input(s: &[u8], at: usize) -> InputRead
     let Line::Number(width, i) = text::number_line(s, at, b"width=", 4096) else {
         return InputRead::Broken;
     };
-    let Line::Number(kind, j) = kind_line(s, i) else {
+    let Line::Number(kind, j) = text::inner::one_of(s, i, b"kind=u\nkind=s\nkind=f\n") else {
         return InputRead::Broken;
     };
     let Place::At(k) = text::bits_line(s, j, b"bits=", width) else {

@@ -1,39 +1,103 @@
--- One of several names: what is read is what is written, and the code's answers for the names, tried one after the other.
+-- One of several names: what is read is what is written, and how the lines of a text are tried, one byte after the other.
 --     oneOf-exact   the reader of names of which no line begins with another's
---     first-of      the code's answers, each handed in with that for the names behind it, are the reader's
+--     keyed-names   a key and one of several names is one of several lines
+--     tried-..      what is left to try, one law for each way through the code
 use mathlib.Core.Path.{_≡_, refl, sym, ap, _∙_}
 use mathlib.Core.Bool.{Bool, true, false, _&&_, cond}
-use mathlib.Core.List.{List, [], _∷_, _++_}
+use mathlib.Core.List.{List, [], _∷_, _++_, append-assoc, map}
 use Prim.Native.Nat.{ℕ, zero, suc, _+_, _-_, _≤_, _<_}
 use native.Mathlib.Nat.{sub-zero}
+use native.Mathlib.Numerals.{add-one}
 use native.Mathlib.Omega.{arith}
 use lib.Dec.{eqb}
-use lib.ListN.{length, getD}
-use borrow.Author.Tests.{eqb-true, eqb-false}
+use lib.ListN.{length, drop, getD, drop-of-length-le}
+use lib.Seq.{drop-cons}
+use borrow.Author.Tests.{eq-eqb, ne-eqb, eqb-true, eqb-false}
 use Rattle.bit.proofs.Tests.{and-true}
-use Rattle.text.specs.Read.{Got, found, broken, onlyIf, orTry, lineEnd, key, named, oneOf}
+use Rattle.text.specs.Read.{Got, found, broken, onlyIf, orTry, next, lineEnd, key, named, oneOf, linesFrom, linesIn}
 use Rattle.text.specs.Exact.{Exact}
-use Rattle.text.specs.Answers.{lineIn, firstLine}
-use Rattle.text.specs.declared.Line.{Line}
-use Rattle.text.specs.declared.Line.the-variants.{Broken}
-use Rattle.text.proofs.Exact.{next-found, key-exact}
+use Rattle.text.proofs.Exact.{next-found, key-exact, key-append}
+use Rattle.text.proofs.Turns.{key-done, key-ends, key-same}
 
--- ---- the code's answers
+-- ---- the lines tried one after the other
 
--- r is the answer for the names ks, the first of which stands for i
-pub data First (s t : List ℕ) : List (List ℕ) → ℕ → Line → Type 0 where
-  last : {i : ℕ} → First s t [] i Broken
-  name : {k : List ℕ} {ks : List (List ℕ)} {i : ℕ} {r o : Line} → r ≡ firstLine (lineIn s (named k i t)) o → First s t ks (suc i) o → First s t (k ∷ ks) i r
+-- the lines that end before j are not the text's, from `at` on, and of the line begun there what is read stands in the text up to i
+pub record Tried (s lines : List ℕ) (at j n i : ℕ) : Type 0 where
+  pub begun : List ℕ
+  pub left : oneOf (linesIn lines) 0 (drop at s) ≡ oneOf (linesFrom begun (drop j lines)) n (drop at s)
+  pub reached : (c : ℕ) (k : List ℕ) → key (begun ++ (c ∷ k)) (drop at s) ≡ key (c ∷ k) (drop i s)
 
-line-orElse : (s : List ℕ) (g h : Got ℕ) → lineIn s (orTry g h) ≡ firstLine (lineIn s g) (lineIn s h)
-line-orElse s (found v u) h = refl
-line-orElse s broken h = refl
+pub tried-first : (s lines : List ℕ) (at : ℕ) → Tried s lines at 0 0 at
+tried-first s lines at = record { begun = []; left = refl; reached = λ c k. refl }
 
-pub first-of : {s t : List ℕ} {ks : List (List ℕ)} {i : ℕ} {r : Line} → First s t ks i r → r ≡ lineIn s (oneOf ks i t)
-unfolding oneOf
-first-of last = refl
-first-of {s} {t} (name {k = k} {ks = ks} {i = i} e f) =
-    e ∙ ap (firstLine (lineIn s (named k i t))) (first-of f) ∙ sym (line-orElse s (named k i t) (oneOf ks (suc i) t))
+module _ (s lines : List ℕ) (at j n i : ℕ) (t : Tried s lines at j n i) where
+  pub tried-all : length lines ≤ j → oneOf (linesIn lines) 0 (drop at s) ≡ broken
+  unfolding oneOf
+  tried-all h = t .left ∙ rw (drop-of-length-le lines h)
+
+  module _ (h : j < length lines) where
+    ends : getD lines j 0 ≡ 10 → oneOf (linesIn lines) 0 (drop at s)
+        ≡ orTry (next (key lineEnd (drop i s)) (λ x. found n)) (oneOf (linesFrom [] (drop (j + 1) lines)) (n + 1) (drop at s))
+    unfolding oneOf named
+    ends e =
+        t .left
+        ∙ rw (drop-cons lines j 0 h, eq-eqb _ 10 e, t .reached 10 [], add-one j, add-one n)
+
+    goes-on : (getD lines j 0 ≡ 10 → ⊥) → oneOf (linesIn lines) 0 (drop at s) ≡ oneOf (linesFrom (t .begun ++ (getD lines j 0 ∷ [])) (drop (j + 1) lines)) n (drop at s)
+    goes-on e = t .left ∙ rw (drop-cons lines j 0 h, ne-eqb _ 10 e, add-one j)
+
+    -- the byte stands in the text
+    module _ (m : i < length s) (q : getD s i 0 ≡ getD lines j 0) where
+      pub tried-found : getD lines j 0 ≡ 10 → oneOf (linesIn lines) 0 (drop at s) ≡ found n (drop (i + 1) s)
+      tried-found e = ends e ∙ rw (key-same s lineEnd i 0 (omega arith) m (q ∙ e), key-done s lineEnd (i + 1) 1 _ (omega arith))
+
+      pub tried-same : (getD lines j 0 ≡ 10 → ⊥) → Tried s lines at (j + 1) n (i + 1)
+      tried-same e = record {
+        begun = t .begun ++ (getD lines j 0 ∷ []);
+        left = goes-on e;
+        reached = λ c k.
+            ap (λ (l : List ℕ). key l (drop at s)) (append-assoc (t .begun) (getD lines j 0 ∷ []) (c ∷ k))
+            ∙ t .reached (getD lines j 0) (c ∷ k)
+            ∙ key-same s (getD lines j 0 ∷ (c ∷ k)) i 0 (omega arith) m q;
+      }
+
+    -- it does not
+    module _ (off : (k : List ℕ) → key (getD lines j 0 ∷ k) (drop i s) ≡ broken) where
+      pub tried-next : getD lines j 0 ≡ 10 → Tried s lines at (j + 1) (n + 1) at
+      tried-next e = record {
+        begun = [];
+        left = ends e ∙ rw (rw e at (off []));
+        reached = λ c k. refl;
+      }
+
+      pub tried-other : (o : ℕ) → length s ≤ o → (getD lines j 0 ≡ 10 → ⊥) → Tried s lines at (j + 1) n o
+      tried-other o z e = record {
+        begun = t .begun ++ (getD lines j 0 ∷ []);
+        left = goes-on e;
+        reached = λ c k.
+            ap (λ (l : List ℕ). key l (drop at s)) (append-assoc (t .begun) (getD lines j 0 ∷ []) (c ∷ k))
+            ∙ t .reached (getD lines j 0) (c ∷ k)
+            ∙ off (c ∷ k)
+            ∙ sym (key-ends s (c ∷ k) o 0 (omega arith) z);
+      }
+
+-- ---- behind a key
+
+-- a key and one of several names is one of the lines of the key and a name
+pub keyed-names : (k : List ℕ) (names : List (List ℕ)) (i : ℕ) (t : List ℕ) → oneOf (map (λ n. k ++ n) names) i t ≡ next (key k t) (λ x. oneOf names i)
+unfolding oneOf named
+keyed-names k [] i t = none (key k t)
+  where
+    none : (g : Got (Unit {0})) → _≡_ {A = Got ℕ} broken (next g (λ x u. broken))
+    none (found x u) = refl
+    none broken = refl
+keyed-names k (n ∷ ns) i t =
+    rw (append-assoc k n lineEnd, key-append k (n ++ lineEnd) t, keyed-names k ns (suc i) t) (go (key k t))
+  where
+    go : (g : Got (Unit {0})) → orTry (next (next g (λ x. key (n ++ lineEnd))) (λ y. found i)) (next g (λ x. oneOf ns (suc i)))
+        ≡ next g (λ x u. orTry (next (key (n ++ lineEnd) u) (λ y. found i)) (oneOf ns (suc i) u))
+    go (found x u) = refl
+    go broken = refl
 
 -- ---- exactness
 

@@ -3,18 +3,17 @@
 --     place-found, place-absent, place-made     what an answer that is a place says
 --     line-found, line-broken, line-within      what an answer with a number says
 --     key-found, keyed, unkeyed      the text behind a key, and a reader that goes on there
---     name-found, name-absent, name-goes-on     the answer for a name, from those for its bytes and for LF
 use mathlib.Core.Path.{_≡_, refl, sym, ap}
 use mathlib.Core.List.{List}
 use Prim.Native.Nat.{ℕ, _-_, _≤_}
 use native.Mathlib.Omega.{arith}
 use lib.ListN.{length, drop, length-drop}
-use Rattle.text.specs.Read.{Got, found, broken, next, lineEnd, key, named}
+use Rattle.text.specs.Read.{Got, found, broken, next, key}
 use Rattle.text.specs.Exact.{Exact}
 use Rattle.text.specs.Answers.{placeIn, lineIn}
 use Rattle.text.specs.declared.Place.the-variants.{At, Absent}
 use Rattle.text.specs.declared.Line.the-variants.{Number, Broken}
-use Rattle.text.proofs.Exact.{rest-of, key-exact, key-append}
+use Rattle.text.proofs.Exact.{rest-of, key-exact}
 
 pub begins : (s : List ℕ) (i : ℕ) → i ≤ length s → length s - length (drop i s) ≡ i
 begins s i h = simp length-drop (omega arith)
@@ -66,7 +65,7 @@ pub line-within : (s : List ℕ) (g : Got ℕ) (v i : ℕ) → lineIn s g ≡ Nu
 line-within s (found x u) v i e = let d : length s - length u ≡ i = cc in omega arith
 line-within s broken v i e = let z : _≡_ {A = ℕ} 0 1 = cc in absurd (omega arith)
 
--- ---- a key, and a name
+-- ---- a key
 
 pub key-found : (s k : List ℕ) (from i : ℕ) → placeIn s (key k (drop from s)) ≡ At i → key k (drop from s) ≡ found tt (drop i s)
 key-found s k from i e = place-found (key-exact k) s from i e .1
@@ -78,23 +77,3 @@ module _ {A : Type 0} (k : List ℕ) (r : List ℕ → Got A) (s : List ℕ) (fr
 
   pub unkeyed : placeIn s (key k (drop from s)) ≡ Absent → next (key k (drop from s)) (λ x. r) ≡ broken
   unkeyed e = ap (λ g. next g (λ x. r)) (place-absent s (key k (drop from s)) e)
-
-made-line : (s : List ℕ) (g : Got (Unit {0})) (v i : ℕ) → placeIn s g ≡ At i → lineIn s (next g (λ x. found v)) ≡ Number v i
-made-line s (found x u) v i e = cc
-made-line s broken v i e = let z : _≡_ {A = ℕ} 0 1 = cc in absurd (omega arith)
-
-module _ (s k : List ℕ) (from v : ℕ) where
-  pub name-absent : placeIn s (key k (drop from s)) ≡ Absent → lineIn s (named k v (drop from s)) ≡ Broken
-  unfolding named
-  name-absent e = rw (key-append k lineEnd (drop from s), place-absent s (key k (drop from s)) e)
-
-  module _ (i : ℕ) (e : placeIn s (key k (drop from s)) ≡ At i) where
-    behind-name : named k v (drop from s) ≡ next (key lineEnd (drop i s)) (λ x. found v)
-    unfolding named
-    behind-name = rw (key-append k lineEnd (drop from s), key-found s k from i e)
-
-    pub name-goes-on : placeIn s (key lineEnd (drop i s)) ≡ Absent → lineIn s (named k v (drop from s)) ≡ Broken
-    name-goes-on f = rw (behind-name, place-absent s (key lineEnd (drop i s)) f)
-
-    pub name-found : (j : ℕ) → placeIn s (key lineEnd (drop i s)) ≡ At j → lineIn s (named k v (drop from s)) ≡ Number v j
-    name-found j f = rw behind-name (made-line s (key lineEnd (drop i s)) v j f)

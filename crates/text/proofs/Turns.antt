@@ -3,15 +3,17 @@
 --     more-.., number-..    the digits of a number, and its first
 --     many-done, many-next, many-broken     several values, of which some are read
 --     bits-ends, bits-other, bits-bit       the bits of a vector, of which some are read
-use mathlib.Core.Path.{_≡_, refl, sym, ap}
-use mathlib.Core.Bool.{true, false}
+use mathlib.Core.Path.{_≡_, refl, sym, ap, _∙_}
+use mathlib.Core.Bool.{Bool, true, false, _&&_, _||_}
 use mathlib.Core.List.{List, [], _∷_, _++_, append-nil}
-use Prim.Native.Nat.{ℕ, suc, _+_, _-_, _*_, _≤_, _<_}
+use Prim.Native.Nat.{ℕ, zero, suc, _+_, _-_, _*_, _≤_, _<_}
 use native.Mathlib.Numerals.{add-one}
 use native.Mathlib.Omega.{arith}
+use lib.Dec.{ltb, eqb}
 use lib.ListN.{length, drop, getD, drop-of-length-le}
 use lib.Seq.{drop-cons, append-snoc}
-use borrow.Author.Tests.{eq-eqb, ne-eqb, le-leb, lt-leb}
+use borrow.Author.Tests.{eq-eqb, ne-eqb, le-leb, lt-leb, eqb-true, eqb-false, ltb-true, ltb-false}
+use Rattle.bit.proofs.Tests.{and-true}
 use Rattle.bit.specs.declared.LogicBit.{LogicBit}
 use Rattle.text.specs.Read.{Got, found, broken, next, many, lineEnd, key, more, number, isBit, ofByte, bit}
 
@@ -35,6 +37,14 @@ module _ (s k : List ℕ) (i j : ℕ) where
   key-other h e q = rw (drop-cons k j 0, drop-cons s i 0, ne-eqb _ _ q)
 
 -- ---- a number
+
+or-false : (a b : Bool) → (a || b) ≡ false → (a ≡ false) × (b ≡ false)
+or-false true b h = let z : _≡_ {A = ℕ} 0 1 = cc in absurd (omega arith)
+or-false false b h = (refl, h)
+
+and-other : (a : Bool) → (a && true) ≡ false → a ≡ false
+and-other true h = h
+and-other false h = refl
 
 pub more-ends : (s : List ℕ) (m n i : ℕ) → length s ≤ i → more m n (drop i s) ≡ broken
 unfolding more
@@ -97,6 +107,85 @@ module _ (s : List ℕ) (m i : ℕ) (h : i < length s) where
     pub number-digit : getD s i 0 - 48 ≤ m → number m (drop i s) ≡ more m (getD s i 0 - 48) (drop (i + 1) s)
     unfolding number
     number-digit q = rw (add-one, drop-cons s i 0, ne-eqb _ _ ne, le-leb _ _ lo, le-leb _ _ hi, le-leb _ _ q)
+
+-- what is left of a number, begun or not, of which n is read
+abbrev pub rest : ℕ → Bool → ℕ → List ℕ → Got ℕ
+rest m false n t = number m t
+rest m true zero t = next (key lineEnd t) (λ x. found 0)
+rest m true (suc n) t = more m (suc n) t
+
+rest-begun : (m n : ℕ) (t : List ℕ) → 0 < n → rest m true n t ≡ more m n t
+rest-begun m zero t h = absurd (omega arith)
+rest-begun m (suc n) t h = refl
+
+pub rest-ends : (s : List ℕ) (m : ℕ) (b : Bool) (n i : ℕ) → length s ≤ i → rest m b n (drop i s) ≡ broken
+rest-ends s m false n i h = number-ends s m i h
+rest-ends s m true zero i h = rw (key-ends s lineEnd i 0 (omega arith) h)
+rest-ends s m true (suc n) i h = more-ends s m (suc n) i h
+
+-- whether c is no digit, or x
+abbrev pub noDigit : ℕ → Bool → Bool
+noDigit c x = (ltb c 48 || ltb 57 c) || x
+
+pub digit-range : (c : ℕ) (x : Bool) → noDigit c x ≡ false → (48 ≤ c) × (c ≤ 57) × (x ≡ false)
+digit-range c x h =
+    let p = or-false (ltb c 48 || ltb 57 c) x h in
+    let q = or-false (ltb c 48) (ltb 57 c) (p .0) in
+    (ltb-false c 48 (q .0), ltb-false 57 c (q .1), p .1)
+
+module _ (s : List ℕ) (m i : ℕ) (h : i < length s) where
+  pub rest-done : (b : Bool) (n : ℕ) → eqb (getD s i 0) 10 ≡ true → b ≡ true → rest m b n (drop i s) ≡ found n (drop (i + 1) s)
+  rest-done false n q e = let z : _≡_ {A = ℕ} 0 1 = cc in absurd (omega arith)
+  rest-done true zero q e = rw (key-same s lineEnd i 0 (omega arith) h (eqb-true _ 10 q), key-done s lineEnd (i + 1) 1 _ (omega arith))
+  rest-done true (suc n) q e = more-done s m (suc n) i h (eqb-true _ 10 q)
+
+  rest-low : (b : Bool) (n : ℕ) → (eqb (getD s i 0) 10 && b) ≡ false → getD s i 0 < 48 → rest m b n (drop i s) ≡ broken
+  rest-low false n q lo = number-low s m i h lo
+  rest-low true zero q lo = rw (key-other s lineEnd i 0 (omega arith) h (eqb-false _ 10 (and-other (eqb (getD s i 0) 10) q)))
+  rest-low true (suc n) q lo = more-low s m (suc n) i h (eqb-false _ 10 (and-other (eqb (getD s i 0) 10) q)) lo
+
+  rest-high : (b : Bool) (n : ℕ) → 57 < getD s i 0 → rest m b n (drop i s) ≡ broken
+  rest-high false n hi = number-high s m i h hi
+  rest-high true zero hi = rw (key-other s lineEnd i 0 (omega arith) h (omega arith))
+  rest-high true (suc n) hi = more-high s m (suc n) i h hi
+
+  rest-zero : (b : Bool) (n : ℕ) → (eqb (getD s i 0) 10 && b) ≡ false → n ≡ 0 → b ≡ true → rest m b n (drop i s) ≡ broken
+  rest-zero false n q z e = let z : _≡_ {A = ℕ} 0 1 = cc in absurd (omega arith)
+  rest-zero true zero q z e = rw (key-other s lineEnd i 0 (omega arith) h (eqb-false _ 10 (and-other (eqb (getD s i 0) 10) q)))
+  rest-zero true (suc n) q z e = absurd (omega arith)
+
+  pub rest-other : (b : Bool) (n : ℕ) → (eqb (getD s i 0) 10 && b) ≡ false → noDigit (getD s i 0) (eqb n 0 && b) ≡ true → rest m b n (drop i s) ≡ broken
+  rest-other b n q e = go (ltb (getD s i 0) 48) (ltb 57 (getD s i 0)) refl refl e
+    where
+      go : (x y : Bool) → ltb (getD s i 0) 48 ≡ x → ltb 57 (getD s i 0) ≡ y → ((x || y) || (eqb n 0 && b)) ≡ true → rest m b n (drop i s) ≡ broken
+      go true y f g e = rest-low b n q (ltb-true _ 48 f)
+      go false true f g e = rest-high b n (ltb-true 57 _ g)
+      go false false f g e = let w = and-true (eqb n 0) b e in rest-zero b n q (eqb-true n 0 (w .0)) (w .1)
+
+  module _ (lo : 48 ≤ getD s i 0) (hi : getD s i 0 ≤ 57) where
+    pub rest-over : (b : Bool) (n : ℕ) → (b ≡ false → n ≡ 0) → (eqb n 0 && b) ≡ false → m < n * 10 + (getD s i 0 - 48) → rest m b n (drop i s) ≡ broken
+    rest-over false n z e q = let y = z refl in number-over s m i h (omega arith) lo hi (omega arith)
+    rest-over true n z e q =
+        let ne = eqb-false n 0 (and-other (eqb n 0) e) in
+        rest-begun m n (drop i s) (omega arith) ∙ more-over s m n i h lo hi q
+
+    first-digit : (x : Bool) → eqb (getD s i 0) 48 ≡ x → getD s i 0 - 48 ≤ m → number m (drop i s) ≡ rest m true (getD s i 0 - 48) (drop (i + 1) s)
+    first-digit true e q = let c48 : getD s i 0 ≡ 48 = eqb-true _ 48 e in let z : getD s i 0 - 48 ≡ 0 = omega arith in rw z (number-zero s m i h c48)
+    first-digit false e q =
+        let ne = eqb-false _ 48 e in
+        number-digit s m i h ne lo hi q ∙ sym (rest-begun m (getD s i 0 - 48) (drop (i + 1) s) (omega arith))
+
+    pub rest-digit : (b : Bool) (n : ℕ) → (b ≡ false → n ≡ 0) → (eqb n 0 && b) ≡ false → n * 10 + (getD s i 0 - 48) ≤ m
+        → rest m b n (drop i s) ≡ rest m true (n * 10 + (getD s i 0 - 48)) (drop (i + 1) s)
+    rest-digit false n z e q =
+        let y = z refl in
+        let d : getD s i 0 - 48 ≡ n * 10 + (getD s i 0 - 48) = omega arith in
+        first-digit (eqb (getD s i 0) 48) refl (omega arith) ∙ ap (λ (k : ℕ). rest m true k (drop (i + 1) s)) d
+    rest-digit true n z e q =
+        let ne = eqb-false n 0 (and-other (eqb n 0) e) in
+        rest-begun m n (drop i s) (omega arith)
+        ∙ more-digit s m n i h lo hi q
+        ∙ sym (rest-begun m (n * 10 + (getD s i 0 - 48)) (drop (i + 1) s) (omega arith))
 
 -- ---- several values, of which some are read
 

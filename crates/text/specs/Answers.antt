@@ -20,11 +20,6 @@ abbrev pub lineIn : List ℕ → Got ℕ → Line
 lineIn s (found v u) = Number v (length s - length u)
 lineIn s broken = Broken
 
--- the first answer; where it is broken, the other
-abbrev pub firstLine : Line → Line → Line
-firstLine (Number v i) other = Number v i
-firstLine Broken other = other
-
 -- the vector whose bits are the n characters from a place on, highest bit first
 unfoldable pub bitsIn : List ℕ → ℕ → ℕ → List LogicBit
 bitsIn s from n = reverse (map ofByte (take n (drop from s)))

@@ -73,6 +73,14 @@ unfoldable pub oneOf : List (List ℕ) → ℕ → List ℕ → Got ℕ
 oneOf [] i t = broken
 oneOf (k ∷ ks) i t = orTry (named k i t) (oneOf ks (suc i) t)
 
+-- the lines of a text without their LF, of which the first is begun as k; what follows the last LF is none
+abbrev pub linesFrom : List ℕ → List ℕ → List (List ℕ)
+linesFrom k [] = []
+linesFrom k (c ∷ t) = let ended = k ∷ linesFrom [] t in let longer = linesFrom (k ++ (c ∷ [])) t in cond (eqb c 10) ended longer
+
+abbrev pub linesIn : List ℕ → List (List ℕ)
+linesIn t = linesFrom [] t
+
 -- one of the characters 0 1 x z
 unfoldable pub isBit : ℕ → Bool
 isBit c = eqb c 48 || (eqb c 49 || (eqb c 120 || eqb c 122))

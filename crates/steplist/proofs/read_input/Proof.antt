@@ -1,5 +1,5 @@
 -- `steplist::read_input`: the three lines one behind the other; the bits stand behind the key of the last.
-use mathlib.Core.Path.{_≡_, refl, sym, _∙_}
+use mathlib.Core.Path.{_≡_, refl, sym, ap, _∙_}
 use mathlib.Core.List.{List, map}
 use Prim.Native.Nat.{ℕ}
 use native.Mathlib.Omega.{arith}
@@ -7,6 +7,8 @@ use lib.ListN.{drop}
 use Rattle.bit.specs.declared.LogicBit.{LogicBit}
 use Rattle.text.specs.Read.{numberLine, bitsKey, bitsLine}
 use Rattle.text.specs.Read.Got.{found}
+use Rattle.text.specs.Answers.{lineIn}
+use Rattle.text.proofs.Names.{keyed-names}
 use Rattle.text.proofs.Vectors.{bitsLine-exact}
 use Rattle.text.proofs.Places.{line-found, line-broken, line-within, place-found, place-absent}
 use Rattle.opline.specs.OpLine.{nameLine, choiceLine}
@@ -19,6 +21,9 @@ use Rattle.steplist.proofs.read_input.Tie as tie
 
 abbrev text : tie.Start → List ℕ
 text c = c .args .s .now
+
+abbrev kinds : List (List ℕ)
+kinds = map kindName allKinds
 
 -- where each accepted line ends, and what it read
 abbrev start1 : tie.After-known-told → tie.Start
@@ -34,7 +39,7 @@ got-width c =
     line-at widthKey (text z) (z .args .at) 4096 4096 refl _ _ (sym (c .before .before .before .number-line .ensures) ∙ c .before .width .given .1)
 
 abbrev one : tie.After-known-told2 → tie.After-known-told
-one c = c .before .before .before .before
+one c = c .before .before .before .before .before
 
 abbrev start2 : tie.After-known-told2 → tie.Start
 start2 c = start1 (one c)
@@ -45,11 +50,20 @@ wide c = one c .before .width .given .0 .0
 abbrev behind-kind : tie.After-known-told2 → ℕ
 behind-kind c = c .before .kind .given .0 .1 .0
 
+-- the line kind= as the reader's
+kind-read : (c : tie.After-one-of) → let k = c .before .before in let s = text (start1 k) in
+    c .one-of .result ≡ lineIn s (nameLine kindKey kinds (drop (behind-width k) s))
+unfolding nameLine
+kind-read c =
+    let k = c .before .before in
+    let s = text (start1 k) in
+    c .one-of .ensures ∙ ap (lineIn s) (keyed-names kindKey kinds 0 (drop (behind-width k) s))
+
 got-kind : (c : tie.After-known-told2) → let s = text (start2 c) in
-    nameLine kindKey (map kindName allKinds) (drop (behind-width (one c)) s) ≡ found (c .before .kind .given .0 .0) (drop (behind-kind c) s)
+    nameLine kindKey kinds (drop (behind-width (one c)) s) ≡ found (c .before .kind .given .0 .0) (drop (behind-kind c) s)
 got-kind c =
-    line-found (name-exact kindKey (map kindName allKinds) refl) (text (start2 c)) (behind-width (one c)) _ _
-    (sym (c .before .before .before .kind-line .ensures) ∙ c .before .kind .given .1)
+    line-found (name-exact kindKey kinds refl) (text (start2 c)) (behind-width (one c)) _ _
+    (sym (kind-read (c .before .before .before)) ∙ c .before .kind .given .1)
 
 abbrev two : tie.After-known-told3 → tie.After-known-told2
 two c = c .before .before .before .before .before
@@ -79,8 +93,11 @@ returns c =
     let a = w .before .before .before .args in
     rw (line-not widthKey (a .s .now) (a .at) 4096 4096 refl (sym (w .number-line .ensures) ∙ c .enum-told .given .1))
 
-kind-line-requires : tie.Need-kind-line-requires
-kind-line-requires c κs = search needs
+slice-aggregate-one-of : tie.Need-slice-aggregate-one-of
+slice-aggregate-one-of c = search needs
+
+one-of-requires : tie.Need-one-of-requires
+one-of-requires c κs = search needs
 
 enum-known-kind : tie.Need-enum-known-kind
 enum-known-kind c = search needs
@@ -92,9 +109,9 @@ returns-2 : tie.Need-returns-2
 unfolding input choiceLine
 returns-2 c =
     let w = c .before .before in
-    let k = w .before in
+    let k = w .before .before in
     let s = text (start1 k) in
-    rw (got-width k, line-broken s (nameLine kindKey (map kindName allKinds) (drop (behind-width k) s)) (sym (w .kind-line .ensures) ∙ c .enum-told2 .given .1))
+    rw (got-width k, line-broken s (nameLine kindKey kinds (drop (behind-width k) s)) (sym (kind-read w) ∙ c .enum-told2 .given .1))
 
 slice-aggregate-bits-line : tie.Need-slice-aggregate-bits-line
 slice-aggregate-bits-line c = search needs
@@ -116,12 +133,12 @@ returns-3 c =
     let s = text (start2 k) in
     rw (got-width (one k), got-kind k, place-absent s (bitsLine bitsKey (wide k) (drop (behind-kind k) s)) (sym (w .bits-line .ensures) ∙ c .enum-told3 .given .1))
 
-add-t20 : tie.Need-add-t20
-add-t20 c =
+add-t23 : tie.Need-add-t23
+add-t23 c =
     let k = two c in
     let s = text (start2 k) in
-    let fits = line-within s (nameLine kindKey (map kindName allKinds) (drop (behind-width (one k)) s)) _ _
-    (sym (k .before .before .before .kind-line .ensures) ∙ k .before .kind .given .1) in
+    let fits = line-within s (nameLine kindKey kinds (drop (behind-width (one k)) s)) _ _
+    (sym (kind-read (k .before .before .before)) ∙ k .before .kind .given .1) in
     omega (arith, fits, start2 k .good)
 
 returns-4 : tie.Need-returns-4
@@ -141,7 +158,8 @@ read-input-spec =
     enum-known-width
     enum-told
     returns
-    kind-line-requires
+    slice-aggregate-one-of
+    one-of-requires
     enum-known-kind
     enum-told-2
     returns-2
@@ -150,5 +168,5 @@ read-input-spec =
     enum-known-k
     enum-told-3
     returns-3
-    add-t20
+    add-t23
     returns-4)
