@@ -1,8 +1,8 @@
 -- The line op= accepts the text of each op, and no other; and so does every line of a key and one of several names.
 --     name-exact, choice-exact     a line of a key and one of several names
 --     op-exact      the line op=
---     op-found, op-broken      the code's answer for it, from the number of the name
---     op-read, op-not      what the reader finds, from that answer
+--     op-line       the code's answer for it, from the number of the name
+--     op-got        what the reader finds, from that answer
 use mathlib.Core.Path.{_≡_, refl, sym, ap, _∙_}
 use mathlib.Core.Bool.{true}
 use mathlib.Core.List.{List, [], _∷_, _++_, map}
@@ -11,16 +11,16 @@ use native.Mathlib.Omega.{arith}
 use lib.ListN.{length, drop, getD, length-map}
 use Rattle.text.specs.Read.{Got, next, lineEnd}
 use Rattle.text.specs.Read.Got.{found, broken}
-use Rattle.text.specs.Answers.{lineIn}
-use Rattle.text.specs.declared.Line.the-variants.{Number, Broken}
+use Rattle.text.specs.Answers.{nowhere, lineIn, gotAt}
 use Rattle.text.specs.Exact.{Exact}
 use Rattle.text.proofs.Exact.{next-found, after-key, rest-of}
+use Rattle.text.proofs.Places.{got, not-got}
 use Rattle.text.proofs.Names.{distinct, nameText, oneOf-exact}
 use Rattle.ops.specs.declared.Op.{Op}
 use Rattle.ops.specs.declared.Op.the-variants.{And, Or, Xor, Not, Merge, ReduceAnd, ReduceOr, ReduceXor, Equal, CaseEqual, CasezEqual, CasexEqual, WildcardEqual, LogicAnd, LogicOr, Select, Insert}
 use Rattle.opline.specs.OpLine.{nameLine, choiceLine, opKey, opName, allOps, opLine}
 use Rattle.opline.specs.Answers.{opIn}
-use Rattle.opline.specs.declared.OpRead.the-variants.{Found, Broken as OpBroken}
+use Rattle.opline.specs.declared.OpRead.{OpRead}
 
 -- ---- one of several names
 
@@ -84,31 +84,17 @@ pub op-exact : Exact opLine (λ o. opKey ++ (opName o ++ lineEnd)) (λ o. Unit {
 unfolding opLine
 op-exact = choice-exact opKey opName allOps And refl op-listed
 
--- ---- the code's answer, from the number of the name
+-- ---- the code's answer
 
-module _ (s : List ℕ) where
-  pub op-found : (g : Got ℕ) (n j : ℕ) → lineIn s g ≡ Number n j → opIn s (next g (λ m. found (getD allOps m And))) ≡ Found (getD allOps n And) j
-  op-found (found m u) n j e =
-      let a : m ≡ n = cc in
-      let b : length s - length u ≡ j = cc in
-      rw (a, b)
-  op-found broken n j e = let z : _≡_ {A = ℕ} 0 1 = cc in absurd (omega arith)
+-- from the number of the name
+pub op-line : (s : List ℕ) (g : Got ℕ) → opIn s (next g (λ m. found (getD allOps m And))) ≡ record { op = getD allOps (lineIn s g .number) And; next = lineIn s g .next }
+op-line s (found m u) = refl
+op-line s broken = refl
 
-  pub op-broken : (g : Got ℕ) → lineIn s g ≡ Broken → opIn s (next g (λ m. found (getD allOps m And))) ≡ OpBroken
-  op-broken (found m u) e = let z : _≡_ {A = ℕ} 0 1 = cc in absurd (omega arith)
-  op-broken broken e = refl
-
-  some-op : (o : Op) (i : ℕ) (g : Got Op) → ((p : Op) (u : List ℕ) → g ≡ found p u → drop (length s - length u) s ≡ u) → opIn s g ≡ Found o i → g ≡ found o (drop i s)
-  some-op o i (found p u) r e =
-      let d : length s - length u ≡ i = cc in
-      let q : p ≡ o = cc in
-      rw q (ap (found o) (sym (rw (← d) (r p u refl))))
-  some-op o i broken r e = let z : _≡_ {A = ℕ} 0 1 = cc in absurd (omega arith)
-
-  -- and from the code's answer to what the reader finds
-  pub op-read : (from : ℕ) (o : Op) (i : ℕ) → opIn s (opLine (drop from s)) ≡ Found o i → opLine (drop from s) ≡ found o (drop i s)
-  op-read from o i e = some-op o i (opLine (drop from s)) (λ p u h. rest-of op-exact s from p u h) e
-
-  pub op-not : (g : Got Op) → opIn s g ≡ OpBroken → g ≡ broken
-  op-not (found p u) e = let z : _≡_ {A = ℕ} 0 1 = cc in absurd (omega arith)
-  op-not broken e = refl
+-- and to what the reader finds
+pub op-got : (s : List ℕ) → length s < nowhere → (from : ℕ) (o : OpRead) → o ≡ opIn s (opLine (drop from s)) → opLine (drop from s) ≡ gotAt s (o .op) (o .next)
+op-got s short from o e = go (opLine (drop from s)) (λ p u h. rest-of op-exact s from p u h) ∙ ap (λ (z : OpRead). gotAt s (z .op) (z .next)) (sym e)
+  where
+    go : (g : Got Op) → ((p : Op) (u : List ℕ) → g ≡ found p u → drop (length s - length u) s ≡ u) → g ≡ gotAt s (opIn s g .op) (opIn s g .next)
+    go (found p u) h = sym (got s short p u (h p u refl))
+    go broken h = sym (not-got s short And)

@@ -1,7 +1,6 @@
 // The line op= of a step, and which of the numbers of a step its op uses.
 use ops::Family;
 use ops::Op;
-use text::Line;
 ghost use mathlib.Core.Path.{_≡_};
 ghost use lib.ListN.{drop};
 ghost use Rattle.opline.specs.OpLine.{opLine, uses as usesOf, largest as largestOf};
@@ -9,23 +8,24 @@ ghost use Rattle.opline.specs.Answers.{opIn};
 
 pub mod inner;
 
-// An op and the place behind its line, if the line is as it should be.
-pub enum OpRead {
-    Found(Op, usize),
-    Broken,
+// An op and the place behind its line.
+pub struct OpRead {
+    pub op: Op,
+    pub next: usize,
 }
 
 // The line op=: the op that has the name, and the place behind the line.
 pub fn op_line(s: &[u8], at: usize) -> OpRead
     ensures { λ r. ⌜ r ≡ opIn (now (s .entry)) (opLine (drop at (now (s .entry)))) ⌝ }
 {
-    match text::inner::one_of(
+    let line = text::inner::one_of(
         s,
         at,
         b"op=and\nop=or\nop=xor\nop=not\nop=mrg\nop=rand\nop=ror\nop=rxor\nop=eq\nop=ceq\nop=cz\nop=cx\nop=weq\nop=land\nop=lor\nop=sel\nop=ins\n",
-    ) {
-        Line::Number(n, i) => OpRead::Found(inner::op_at(n as usize), i),
-        Line::Broken => OpRead::Broken,
+    );
+    OpRead {
+        op: inner::op_at(line.number as usize),
+        next: line.next,
     }
 }
 

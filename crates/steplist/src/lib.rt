@@ -1,20 +1,15 @@
 // A step list, read whole and strictly: the inputs with the places of their bits in the text, and the steps.
-use opline::OpRead;
 use ops::Op;
 use ops::Step;
 use refusal::Refusal;
 use refusal::Verdict;
-use text::Line;
-use text::Place;
 use value::Header;
 ghost use mathlib.Core.Path.{_≡_};
 ghost use Prim.Native.Nat.{_≤_};
 ghost use lib.ListN.{drop};
-ghost use Rattle.refusal.specs.declared.Refusal.the-variants.{BadFormat};
-ghost use Rattle.refusal.specs.declared.Verdict.the-variants.{Refused};
-ghost use Rattle.text.specs.Read.{many};
-ghost use Rattle.steplist.specs.Listing.{input, numbers, step, whole};
-ghost use Rattle.steplist.specs.Answers.{inputGot, inputsGot, stepGot, stepsGot, listAnswer};
+ghost use Rattle.text.specs.Answers.{gotAt};
+ghost use Rattle.steplist.specs.Listing.{input, step, whole};
+ghost use Rattle.steplist.specs.Answers.{inputIn, inputsIn, stepsIn, manyAt, listAnswer};
 
 // An input: its header, and the place in the text where its bits stand, highest first.
 pub struct Input {
@@ -36,26 +31,28 @@ pub struct ListAnswer {
     pub list: StepList,
 }
 
-enum InputRead {
-    Found(Input, usize),
-    Broken,
+// An input, and the place behind its lines.
+struct InputRead {
+    input: Input,
+    next: usize,
 }
 
-// The inputs, and the place behind them if they are as they should be.
+// The inputs, and the place behind them.
 struct InputsRead {
     inputs: [Input; 64],
-    next: Place,
+    next: usize,
 }
 
-enum StepRead {
-    Found(Step, usize),
-    Broken,
+// A step, and the place behind its lines.
+struct StepRead {
+    step: Step,
+    next: usize,
 }
 
-// The steps, and the place behind them if they are as they should be.
+// The steps, and the place behind them.
 struct StepsRead {
     steps: [Step; 256],
-    next: Place,
+    next: usize,
 }
 
 const NO_INPUT: Input = Input {
@@ -76,167 +73,108 @@ const NO_STEP: Step = Step {
 
 // The three lines of an input.
 fn read_input(s: &[u8], at: usize) -> InputRead
-    ensures { λ r. ⌜ inputGot (now (s .entry)) r ≡ input (drop at (now (s .entry))) ⌝ }
+    ensures { λ r. ⌜ gotAt (now (s .entry)) (inputIn (now (s .entry)) (r .input)) (r .next) ≡ input (drop at (now (s .entry))) ⌝ }
 {
-    let Line::Number(width, i) = text::number_line(s, at, b"width=", 4096) else {
-        return InputRead::Broken;
-    };
-    let Line::Number(kind, j) = text::inner::one_of(s, i, b"kind=u\nkind=s\nkind=f\n") else {
-        return InputRead::Broken;
-    };
-    let Place::At(k) = text::bits_line(s, j, b"bits=", width) else {
-        return InputRead::Broken;
-    };
+    let width = text::number_line(s, at, b"width=", 4096);
+    let kind = text::inner::one_of(s, width.next, b"kind=u\nkind=s\nkind=f\n");
+    let next = text::bits_line(s, kind.next, b"bits=", width.number);
     let header = Header {
-        width,
-        is_signed: kind == 1,
-        is_fill: kind == 2,
+        width: width.number,
+        is_signed: kind.number == 1,
+        is_fill: kind.number == 2,
     };
-    InputRead::Found(
-        Input {
+    InputRead {
+        input: Input {
             header,
-            place: j + 5,
+            place: kind.next + 5,
         },
-        k,
-    )
+        next,
+    }
 }
 
 // n inputs.
 fn read_inputs(s: &[u8], at: usize, n: usize) -> InputsRead
     requires { ⌜ n ≤ 64 ⌝ }
-    ensures { λ r. ⌜ inputsGot (now (s .entry)) n r ≡ many input n (drop at (now (s .entry))) ⌝ }
+    ensures { λ r. ⌜ gotAt (now (s .entry)) (inputsIn (now (s .entry)) n (r .inputs)) (r .next) ≡ manyAt (now (s .entry)) input n at ⌝ }
 {
     let mut inputs = [NO_INPUT; 64];
     let mut i = 0;
     let mut p = at;
     while i < n {
-        match read_input(s, p) {
-            InputRead::Found(x, q) => {
-                inputs[i] = x;
-                p = q;
-                i += 1;
-            }
-            InputRead::Broken => {
-                return InputsRead {
-                    inputs,
-                    next: Place::Absent,
-                };
-            }
-        }
+        let x = read_input(s, p);
+        let input = x.input;
+        inputs[i] = input;
+        p = x.next;
+        i += 1;
     }
-    InputsRead {
-        inputs,
-        next: Place::At(p),
-    }
-}
-
-// The lines a=, b= and c= of a step.
-fn read_numbers(s: &[u8], at: usize, op: Op) -> StepRead
-    ensures { λ r. ⌜ stepGot (now (s .entry)) r ≡ numbers op (drop at (now (s .entry))) ⌝ }
-{
-    let Line::Number(a, i) = text::number_line(s, at, b"a=", opline::largest(op, 0)) else {
-        return StepRead::Broken;
-    };
-    let Line::Number(b, j) = text::number_line(s, i, b"b=", opline::largest(op, 1)) else {
-        return StepRead::Broken;
-    };
-    let Line::Number(c, k) = text::number_line(s, j, b"c=", opline::largest(op, 2)) else {
-        return StepRead::Broken;
-    };
-    StepRead::Found(Step { op, a, b, c }, k)
+    InputsRead { inputs, next: p }
 }
 
 // The four lines of a step.
 fn read_step(s: &[u8], at: usize) -> StepRead
-    ensures { λ r. ⌜ stepGot (now (s .entry)) r ≡ step (drop at (now (s .entry))) ⌝ }
+    ensures { λ r. ⌜ gotAt (now (s .entry)) (r .step) (r .next) ≡ step (drop at (now (s .entry))) ⌝ }
 {
-    match opline::op_line(s, at) {
-        OpRead::Found(op, i) => read_numbers(s, i, op),
-        OpRead::Broken => StepRead::Broken,
+    let o = opline::op_line(s, at);
+    let op = o.op;
+    let a = text::number_line(s, o.next, b"a=", opline::largest(op, 0));
+    let b = text::number_line(s, a.next, b"b=", opline::largest(op, 1));
+    let c = text::number_line(s, b.next, b"c=", opline::largest(op, 2));
+    StepRead {
+        step: Step {
+            op,
+            a: a.number,
+            b: b.number,
+            c: c.number,
+        },
+        next: c.next,
     }
 }
 
 // n steps.
 fn read_steps(s: &[u8], at: usize, n: usize) -> StepsRead
     requires { ⌜ n ≤ 256 ⌝ }
-    ensures { λ r. ⌜ stepsGot (now (s .entry)) n r ≡ many step n (drop at (now (s .entry))) ⌝ }
+    ensures { λ r. ⌜ gotAt (now (s .entry)) (stepsIn n (r .steps)) (r .next) ≡ manyAt (now (s .entry)) step n at ⌝ }
 {
     let mut steps = [NO_STEP; 256];
     let mut i = 0;
     let mut p = at;
     while i < n {
-        match read_step(s, p) {
-            StepRead::Found(x, q) => {
-                steps[i] = x;
-                p = q;
-                i += 1;
-            }
-            StepRead::Broken => {
-                return StepsRead {
-                    steps,
-                    next: Place::Absent,
-                };
-            }
-        }
+        let x = read_step(s, p);
+        let step = x.step;
+        steps[i] = step;
+        p = x.next;
+        i += 1;
     }
-    StepsRead {
-        steps,
-        next: Place::At(p),
-    }
-}
-
-// 6, with an empty list.
-fn no_list() -> ListAnswer
-    ensures { λ r. ⌜ r .verdict ≡ Refused BadFormat ⌝ }
-{
-    ListAnswer {
-        verdict: Verdict::Refused(Refusal::BadFormat),
-        list: StepList {
-            inputs: [NO_INPUT; 64],
-            input_count: 0,
-            steps: [NO_STEP; 256],
-            step_count: 0,
-        },
-    }
+    StepsRead { steps, next: p }
 }
 
 // The list that a text says, or 6 if the text breaks its format or has more than 65,536 bytes.
 pub fn read_list(s: &[u8]) -> ListAnswer
     ensures { λ r. ⌜ listAnswer (now (s .entry)) r ≡ whole (now (s .entry)) ⌝ }
 {
-    if 65536 < s.len() {
-        return no_list();
-    }
-    let Line::Number(n, i) = text::number_line(s, 0, b"inputs=", 64) else {
-        return no_list();
-    };
-    let Line::Number(m, j) = text::number_line(s, i, b"steps=", 256) else {
-        return no_list();
-    };
-    let input_count = n as usize;
-    let a = read_inputs(s, j, input_count);
+    let n = text::number_line(s, 0, b"inputs=", 64);
+    let m = text::number_line(s, n.next, b"steps=", 256);
+    let input_count = n.number as usize;
+    let step_count = m.number as usize;
+    let a = read_inputs(s, m.next, input_count);
     let inputs = a.inputs;
-    let behind_inputs = a.next;
-    let Place::At(k) = behind_inputs else {
-        return no_list();
-    };
-    let step_count = m as usize;
-    let b = read_steps(s, k, step_count);
+    let b = read_steps(s, a.next, step_count);
     let steps = b.steps;
-    let behind_steps = b.next;
-    let Place::At(l) = behind_steps else {
-        return no_list();
+    let list = StepList {
+        inputs,
+        input_count,
+        steps,
+        step_count,
     };
-    if l < s.len() {
-        return no_list();
-    }
-    ListAnswer {
-        verdict: Verdict::Accepted,
-        list: StepList {
-            inputs,
-            input_count,
-            steps,
-            step_count,
-        },
+    if (b.next == s.len()) & (s.len() <= 65536) {
+        ListAnswer {
+            verdict: Verdict::Accepted,
+            list,
+        }
+    } else {
+        ListAnswer {
+            verdict: Verdict::Refused(Refusal::BadFormat),
+            list,
+        }
     }
 }

@@ -1,18 +1,23 @@
--- From the code's answers, which are places in the text, to the readers', which are rests of it.
+-- From the code's answers, which are places in the text, to the readers', which are rests of it. The text is shorter than any place that says
+-- that nothing was found.
 --     begins, begins-end     where the rest of the text from i on begins
---     place-found, place-absent, place-made     what an answer that is a place says
---     line-found, line-broken, line-within      what an answer with a number says
---     key-found, keyed, unkeyed      the text behind a key, and a reader that goes on there
-use mathlib.Core.Path.{_≡_, refl, sym, ap}
-use mathlib.Core.List.{List}
-use Prim.Native.Nat.{ℕ, _-_, _≤_}
+--     behind-key    a reader behind a key
+--     line-got, line-within, line-near      what an answer with a number says
+--     went-on       a reader behind what was read up to a place
+--     made-of       what is made of what was read does not change the place
+--     got, not-got  what was found, and nothing where it is not there
+use mathlib.Core.Path.{_≡_, refl, sym, ap, _∙_}
+use mathlib.Core.Bool.{Bool, true, false}
+use mathlib.Core.List.{List, []}
+use Prim.Native.Nat.{ℕ, _-_, _≤_, _<_}
 use native.Mathlib.Omega.{arith}
-use lib.ListN.{length, drop, length-drop}
-use Rattle.text.specs.Read.{Got, found, broken, next, key}
+use lib.Dec.{leb}
+use lib.ListN.{length, drop, length-drop, drop-of-length-le}
+use borrow.Author.Tests.{le-leb, lt-leb, leb-false}
+use Rattle.text.specs.Read.{Got, found, broken, onlyIf, next, key}
 use Rattle.text.specs.Exact.{Exact}
-use Rattle.text.specs.Answers.{placeIn, lineIn}
-use Rattle.text.specs.declared.Place.the-variants.{At, Absent}
-use Rattle.text.specs.declared.Line.the-variants.{Number, Broken}
+use Rattle.text.specs.Answers.{nowhere, placeIn, lineIn, gotAt}
+use Rattle.text.specs.declared.Line.{Line}
 use Rattle.text.proofs.Exact.{rest-of, key-exact}
 
 pub begins : (s : List ℕ) (i : ℕ) → i ≤ length s → length s - length (drop i s) ≡ i
@@ -21,59 +26,58 @@ begins s i h = simp length-drop (omega arith)
 pub begins-end : (s : List ℕ) (i : ℕ) → length s ≤ i → length s - length (drop i s) ≡ length s
 begins-end s i h = simp length-drop (omega arith)
 
--- ---- a place
+-- ---- behind a place
 
-some-place : {A : Type 0} (s : List ℕ) (i : ℕ) (g : Got A) → ((a : A) (u : List ℕ) → g ≡ found a u → drop (length s - length u) s ≡ u)
-    → placeIn s g ≡ At i → (a : A) × (g ≡ found a (drop i s))
-some-place s i (found a u) r e =
-    let d : length s - length u ≡ i = cc in
-    (a, ap (found a) (sym (rw (← d) (r a u refl))))
-some-place s i broken r e = let z : _≡_ {A = ℕ} 0 1 = cc in absurd (omega arith)
+pub went-on : {A B : Type 0} (s : List ℕ) (a : A) (i : ℕ) (f : A → List ℕ → Got B) → f a [] ≡ broken → next (gotAt s a i) f ≡ f a (drop i s)
+went-on s a i f e = go (leb i (length s)) refl
+  where
+    go : (b : Bool) → leb i (length s) ≡ b → next (onlyIf b (found a (drop i s))) f ≡ f a (drop i s)
+    go true q = refl
+    go false q = let h = leb-false i (length s) q in let p : length s ≤ i = omega arith in sym (ap (f a) (drop-of-length-le s p) ∙ e)
 
-pub place-found : {A : Type 0} {r : List ℕ → Got A} {w : A → List ℕ} {P : A → Type 0} → Exact r w P
-    → (s : List ℕ) (from i : ℕ) → placeIn s (r (drop from s)) ≡ At i → (a : A) × (r (drop from s) ≡ found a (drop i s))
-place-found {r} x s from i e = some-place s i (r (drop from s)) (λ a u h. rest-of x s from a u h) e
+pub made-of : {A B : Type 0} (s : List ℕ) (a : A) (i : ℕ) (f : A → B) → next (gotAt s a i) (λ x. found (f x)) ≡ gotAt s (f a) i
+made-of s a i f = go (leb i (length s))
+  where
+    go : (b : Bool) → next (onlyIf b (found a (drop i s))) (λ x. found (f x)) ≡ onlyIf b (found (f a) (drop i s))
+    go true = refl
+    go false = refl
 
-pub place-absent : {A : Type 0} (s : List ℕ) (g : Got A) → placeIn s g ≡ Absent → g ≡ broken
-place-absent s (found a u) e = let z : _≡_ {A = ℕ} 0 1 = cc in absurd (omega arith)
-place-absent s broken e = refl
+module _ (s : List ℕ) (short : length s < nowhere) where
+  -- nothing is found at the place of what is not there
+  pub not-got : {A : Type 0} (a : A) → gotAt s a nowhere ≡ broken
+  not-got a = rw (lt-leb nowhere (length s) short)
 
--- what is made of what was read does not change the place
-pub place-made : {A B : Type 0} (s : List ℕ) (g : Got A) (b : B) → placeIn s (next g (λ x. found b)) ≡ placeIn s g
-place-made s (found a u) b = refl
-place-made s broken b = refl
+  pub got : {A : Type 0} (a : A) (u : List ℕ) → drop (length s - length u) s ≡ u → gotAt s a (length s - length u) ≡ found a u
+  got a u e =
+      let h : length s - length u ≤ length s = omega arith in
+      rw (le-leb (length s - length u) (length s) h) (ap (found a) e)
 
--- ---- a number
+  pub behind-key : {A : Type 0} (k : List ℕ) (r : List ℕ → Got A) → r [] ≡ broken → (from i : ℕ) → i ≡ placeIn s (key k (drop from s))
+      → next (key k (drop from s)) (λ x. r) ≡ r (drop i s)
+  behind-key k r none from i e = go (key k (drop from s)) (λ x u h. rest-of (key-exact k) s from x u h) ∙ ap (λ (j : ℕ). r (drop j s)) (sym e)
+    where
+      go : (g : Got (Unit {0})) → ((x : Unit {0}) (u : List ℕ) → g ≡ found x u → drop (length s - length u) s ≡ u) → next g (λ x. r) ≡ r (drop (placeIn s g) s)
+      go (found x u) h = ap r (sym (h x u refl))
+      go broken h = let p : length s ≤ nowhere = omega arith in sym (ap r (drop-of-length-le s p) ∙ none)
 
-some-line : (s : List ℕ) (v i : ℕ) (g : Got ℕ) → ((x : ℕ) (u : List ℕ) → g ≡ found x u → drop (length s - length u) s ≡ u)
-    → lineIn s g ≡ Number v i → g ≡ found v (drop i s)
-some-line s v i (found x u) r e =
-    let d : length s - length u ≡ i = cc in
-    let q : x ≡ v = cc in
-    rw q (ap (found v) (sym (rw (← d) (r x u refl))))
-some-line s v i broken r e = let z : _≡_ {A = ℕ} 0 1 = cc in absurd (omega arith)
+  module _ {r : List ℕ → Got ℕ} {w : ℕ → List ℕ} {P : ℕ → Type 0} (x : Exact r w P) (from : ℕ) (l : Line) (e : l ≡ lineIn s (r (drop from s))) where
+    pub line-got : r (drop from s) ≡ gotAt s (l .number) (l .next)
+    line-got = go (r (drop from s)) (λ v u h. rest-of x s from v u h) ∙ ap (λ (m : Line). gotAt s (m .number) (m .next)) (sym e)
+      where
+        go : (g : Got ℕ) → ((v : ℕ) (u : List ℕ) → g ≡ found v u → drop (length s - length u) s ≡ u) → g ≡ gotAt s (lineIn s g .number) (lineIn s g .next)
+        go (found v u) h = sym (got v u (h v u refl))
+        go broken h = sym (not-got 0)
 
-pub line-found : {r : List ℕ → Got ℕ} {w : ℕ → List ℕ} {P : ℕ → Type 0} → Exact r w P
-    → (s : List ℕ) (from v i : ℕ) → lineIn s (r (drop from s)) ≡ Number v i → r (drop from s) ≡ found v (drop i s)
-line-found {r} x s from v i e = some-line s v i (r (drop from s)) (λ y u h. rest-of x s from y u h) e
+    pub line-within : P 0 → P (l .number)
+    line-within none = rw e (go (r (drop from s)) refl)
+      where
+        go : (g : Got ℕ) → r (drop from s) ≡ g → P (lineIn s g .number)
+        go (found v u) h = x .only v (drop from s) u h .0
+        go broken h = none
 
-pub line-broken : (s : List ℕ) (g : Got ℕ) → lineIn s g ≡ Broken → g ≡ broken
-line-broken s (found x u) e = let z : _≡_ {A = ℕ} 0 1 = cc in absurd (omega arith)
-line-broken s broken e = refl
-
-pub line-within : (s : List ℕ) (g : Got ℕ) (v i : ℕ) → lineIn s g ≡ Number v i → i ≤ length s
-line-within s (found x u) v i e = let d : length s - length u ≡ i = cc in omega arith
-line-within s broken v i e = let z : _≡_ {A = ℕ} 0 1 = cc in absurd (omega arith)
-
--- ---- a key
-
-pub key-found : (s k : List ℕ) (from i : ℕ) → placeIn s (key k (drop from s)) ≡ At i → key k (drop from s) ≡ found tt (drop i s)
-key-found s k from i e = place-found (key-exact k) s from i e .1
-
--- a reader behind a key
-module _ {A : Type 0} (k : List ℕ) (r : List ℕ → Got A) (s : List ℕ) (from : ℕ) where
-  pub keyed : (i : ℕ) → placeIn s (key k (drop from s)) ≡ At i → next (key k (drop from s)) (λ x. r) ≡ r (drop i s)
-  keyed i e = ap (λ g. next g (λ x. r)) (key-found s k from i e)
-
-  pub unkeyed : placeIn s (key k (drop from s)) ≡ Absent → next (key k (drop from s)) (λ x. r) ≡ broken
-  unkeyed e = ap (λ g. next g (λ x. r)) (place-absent s (key k (drop from s)) e)
+    pub line-near : l .next ≤ nowhere
+    line-near = rw e (go (r (drop from s)))
+      where
+        go : (g : Got ℕ) → lineIn s g .next ≤ nowhere
+        go (found v u) = omega arith
+        go broken = omega arith

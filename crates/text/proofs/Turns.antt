@@ -1,6 +1,6 @@
 -- The readers at a place of a text, one law for each way through the code.
 --     key-done, key-ends, key-same, key-other       the bytes of a key
---     more-.., number-..    the digits of a number, and its first
+--     rest-..       the digits of a number, of which some are read
 --     many-done, many-next, many-broken     several values, of which some are read
 --     bits-ends, bits-other, bits-bit       the bits of a vector, of which some are read
 use mathlib.Core.Path.{_≡_, refl, sym, ap, _∙_}
@@ -46,20 +46,20 @@ and-other : (a : Bool) → (a && true) ≡ false → a ≡ false
 and-other true h = h
 and-other false h = refl
 
-pub more-ends : (s : List ℕ) (m n i : ℕ) → length s ≤ i → more m n (drop i s) ≡ broken
+more-ends : (s : List ℕ) (m n i : ℕ) → length s ≤ i → more m n (drop i s) ≡ broken
 unfolding more
 more-ends s m n i h = rw drop-of-length-le
 
 module _ (s : List ℕ) (m n i : ℕ) (h : i < length s) where
-  pub more-done : getD s i 0 ≡ 10 → more m n (drop i s) ≡ found n (drop (i + 1) s)
+  more-done : getD s i 0 ≡ 10 → more m n (drop i s) ≡ found n (drop (i + 1) s)
   unfolding more
   more-done q = rw (add-one, drop-cons s i 0, eq-eqb _ _ q)
 
-  pub more-low : (getD s i 0 ≡ 10 → ⊥) → getD s i 0 < 48 → more m n (drop i s) ≡ broken
+  more-low : (getD s i 0 ≡ 10 → ⊥) → getD s i 0 < 48 → more m n (drop i s) ≡ broken
   unfolding more
   more-low ne lo = rw (drop-cons s i 0, ne-eqb _ _ ne, lt-leb _ _ lo)
 
-  pub more-high : 57 < getD s i 0 → more m n (drop i s) ≡ broken
+  more-high : 57 < getD s i 0 → more m n (drop i s) ≡ broken
   unfolding more
   more-high hi =
       let ne : getD s i 0 ≡ 10 → ⊥ = omega arith in
@@ -67,32 +67,32 @@ module _ (s : List ℕ) (m n i : ℕ) (h : i < length s) where
       rw (drop-cons s i 0, ne-eqb _ _ ne, le-leb _ _ lo, lt-leb _ _ hi)
 
   module _ (lo : 48 ≤ getD s i 0) (hi : getD s i 0 ≤ 57) where
-    pub more-over : m < n * 10 + (getD s i 0 - 48) → more m n (drop i s) ≡ broken
+    more-over : m < n * 10 + (getD s i 0 - 48) → more m n (drop i s) ≡ broken
     unfolding more
     more-over q =
         let ne : getD s i 0 ≡ 10 → ⊥ = omega arith in
         rw (drop-cons s i 0, ne-eqb _ _ ne, le-leb _ _ lo, le-leb _ _ hi, lt-leb _ _ q)
 
-    pub more-digit : n * 10 + (getD s i 0 - 48) ≤ m → more m n (drop i s) ≡ more m (n * 10 + (getD s i 0 - 48)) (drop (i + 1) s)
+    more-digit : n * 10 + (getD s i 0 - 48) ≤ m → more m n (drop i s) ≡ more m (n * 10 + (getD s i 0 - 48)) (drop (i + 1) s)
     unfolding more
     more-digit q =
         let ne : getD s i 0 ≡ 10 → ⊥ = omega arith in
         rw (add-one, drop-cons s i 0, ne-eqb _ _ ne, le-leb _ _ lo, le-leb _ _ hi, le-leb _ _ q)
 
-pub number-ends : (s : List ℕ) (m i : ℕ) → length s ≤ i → number m (drop i s) ≡ broken
+number-ends : (s : List ℕ) (m i : ℕ) → length s ≤ i → number m (drop i s) ≡ broken
 unfolding number
 number-ends s m i h = rw drop-of-length-le
 
 module _ (s : List ℕ) (m i : ℕ) (h : i < length s) where
-  pub number-zero : getD s i 0 ≡ 48 → number m (drop i s) ≡ next (key lineEnd (drop (i + 1) s)) (λ x. found 0)
+  number-zero : getD s i 0 ≡ 48 → number m (drop i s) ≡ next (key lineEnd (drop (i + 1) s)) (λ x. found 0)
   unfolding number
   number-zero q = rw (add-one, drop-cons s i 0, eq-eqb _ _ q)
 
-  pub number-low : getD s i 0 < 48 → number m (drop i s) ≡ broken
+  number-low : getD s i 0 < 48 → number m (drop i s) ≡ broken
   unfolding number
   number-low lo = let ne : getD s i 0 ≡ 48 → ⊥ = omega arith in rw (drop-cons s i 0, ne-eqb _ _ ne, lt-leb _ _ lo)
 
-  pub number-high : 57 < getD s i 0 → number m (drop i s) ≡ broken
+  number-high : 57 < getD s i 0 → number m (drop i s) ≡ broken
   unfolding number
   number-high hi =
       let ne : getD s i 0 ≡ 48 → ⊥ = omega arith in
@@ -100,11 +100,11 @@ module _ (s : List ℕ) (m i : ℕ) (h : i < length s) where
       rw (drop-cons s i 0, ne-eqb _ _ ne, le-leb _ _ lo, lt-leb _ _ hi)
 
   module _ (ne : getD s i 0 ≡ 48 → ⊥) (lo : 48 ≤ getD s i 0) (hi : getD s i 0 ≤ 57) where
-    pub number-over : m < getD s i 0 - 48 → number m (drop i s) ≡ broken
+    number-over : m < getD s i 0 - 48 → number m (drop i s) ≡ broken
     unfolding number
     number-over q = rw (drop-cons s i 0, ne-eqb _ _ ne, le-leb _ _ lo, le-leb _ _ hi, lt-leb _ _ q)
 
-    pub number-digit : getD s i 0 - 48 ≤ m → number m (drop i s) ≡ more m (getD s i 0 - 48) (drop (i + 1) s)
+    number-digit : getD s i 0 - 48 ≤ m → number m (drop i s) ≡ more m (getD s i 0 - 48) (drop (i + 1) s)
     unfolding number
     number-digit q = rw (add-one, drop-cons s i 0, ne-eqb _ _ ne, le-leb _ _ lo, le-leb _ _ hi, le-leb _ _ q)
 
@@ -123,7 +123,7 @@ rest-ends s m false n i h = number-ends s m i h
 rest-ends s m true zero i h = rw (key-ends s lineEnd i 0 (omega arith) h)
 rest-ends s m true (suc n) i h = more-ends s m (suc n) i h
 
--- whether c is no digit, or x
+-- whether c is no digit, or x holds
 abbrev pub noDigit : ℕ → Bool → Bool
 noDigit c x = (ltb c 48 || ltb 57 c) || x
 

@@ -1,4 +1,5 @@
 // One of several lines.
+use crate::BROKEN;
 use crate::Line;
 ghost use mathlib.Core.Path.{_≡_};
 ghost use Prim.Native.Nat.{_<_};
@@ -21,7 +22,7 @@ pub fn one_of(s: &[u8], at: usize, lines: &[u8]) -> Line
             if s[i] == c {
                 i += 1;
                 if c == 10 {
-                    return Line::Number(n, i);
+                    return Line { number: n, next: i };
                 }
             } else {
                 i = s.len();
@@ -32,5 +33,5 @@ pub fn one_of(s: &[u8], at: usize, lines: &[u8]) -> Line
             i = at;
         }
     }
-    Line::Broken
+    BROKEN
 }

@@ -1,9 +1,9 @@
--- `steplist::read_step`: the numbers are read behind the line of the op.
-use mathlib.Core.Path.{sym, _∙_}
-use lib.ListN.{drop}
-use Rattle.opline.specs.OpLine.{opLine}
-use Rattle.opline.proofs.Names.{op-read, op-not}
-use Rattle.steplist.specs.Listing.{step}
+-- `steplist::read_step`: the four lines one behind the other.
+use Prim.Native.Nat.{_<_}
+use native.Mathlib.Omega.{arith}
+use lib.ListN.{length}
+use Rattle.text.specs.Answers.{nowhere}
+use Rattle.steplist.proofs.Parts.{step-got}
 use borrow.Author.Needs.{needs}
 use Rattle.steplist.proofs.read_step.Statement.{statement}
 use Rattle.steplist.proofs.read_step.Tie as tie
@@ -11,31 +11,58 @@ use Rattle.steplist.proofs.read_step.Tie as tie
 op-line-requires : tie.Need-op-line-requires
 op-line-requires c κs = search needs
 
-enum-known-op : tie.Need-enum-known-op
-enum-known-op c = search needs
+slice-aggregate-number-line : tie.Need-slice-aggregate-number-line
+slice-aggregate-number-line c = search needs
 
-read-numbers-requires : tie.Need-read-numbers-requires
-read-numbers-requires c κs = search needs
+largest-requires : tie.Need-largest-requires
+largest-requires c κs = search needs
 
-enum-told : tie.Need-enum-told
-enum-told c = search needs
+number-line-requires : tie.Need-number-line-requires
+number-line-requires c κs = search needs
+
+slice-aggregate-number-line-2 : tie.Need-slice-aggregate-number-line-2
+slice-aggregate-number-line-2 c = search needs
+
+largest-requires-2 : tie.Need-largest-requires-2
+largest-requires-2 c κs = search needs
+
+number-line-requires-2 : tie.Need-number-line-requires-2
+number-line-requires-2 c κs = search needs
+
+slice-aggregate-number-line-3 : tie.Need-slice-aggregate-number-line-3
+slice-aggregate-number-line-3 c = search needs
+
+largest-requires-3 : tie.Need-largest-requires-3
+largest-requires-3 c κs = search needs
+
+number-line-requires-3 : tie.Need-number-line-requires-3
+number-line-requires-3 c κs = search needs
 
 returns : tie.Need-returns
-unfolding step
 returns c =
-    let o = c .before .before .op in
-    let w = c .before .before .before .before in
-    let a = w .before .before .args in
-    rw (op-read (a .s .now) (a .at) (o .given .0 .0) (o .given .0 .1 .0) (sym (w .op-line .ensures) ∙ o .given .1)) (c .read-numbers .ensures)
-
-returns-2 : tie.Need-returns-2
-unfolding step
-returns-2 c =
-    let w = c .before .before in
-    let a = w .before .before .args in
-    rw (op-not (a .s .now) (opLine (drop (a .at) (a .s .now))) (sym (w .op-line .ensures) ∙ c .enum-told .given .1))
+    let b = c .before .before .before in
+    let a = b .before .before .before in
+    let o = a .before .before .before in
+    let t = o .before .before in
+    let short : length (t .args .s .now) < nowhere = omega (arith, t .good) in
+    step-got (t .args .s .now) short (t .args .at) (o .op-line .result) _ _ _ (a .number-line .result) (b .number-line2 .result) (c .number-line3 .result)
+    (o .op-line .ensures)
+    (a .before .largest .ensures) (a .number-line .ensures)
+    (b .before .largest2 .ensures) (b .number-line2 .ensures)
+    (c .before .largest3 .ensures) (c .number-line3 .ensures)
 
 pub read-step-spec : {M : Type 1} → statement M
 read-step-spec =
     tie.close
-    (tie.spec op-line-requires enum-known-op read-numbers-requires enum-told returns returns-2)
+    (tie.spec
+    op-line-requires
+    slice-aggregate-number-line
+    largest-requires
+    number-line-requires
+    slice-aggregate-number-line-2
+    largest-requires-2
+    number-line-requires-2
+    slice-aggregate-number-line-3
+    largest-requires-3
+    number-line-requires-3
+    returns)

@@ -1,13 +1,13 @@
 -- `text::number_line`: what is left of the number at the place reached reads as all of it does behind the key.
-use mathlib.Core.Path.{_≡_, refl, sym, ap, _∙_}
+use mathlib.Core.Path.{_≡_, refl, _∙_}
 use mathlib.Core.Bool.{true, false, _&&_}
-use Prim.Native.Nat.{ℕ, _+_, _-_, _≤_}
+use Prim.Native.Nat.{ℕ, _+_, _-_, _≤_, _<_}
 use native.Mathlib.Omega.{arith}
 use lib.Dec.{ltb, eqb}
 use lib.ListN.{length, drop, getD}
 use Rattle.text.specs.Read.{number, numberLine}
-use Rattle.text.specs.Answers.{lineIn}
-use Rattle.text.proofs.Places.{begins, keyed, unkeyed}
+use Rattle.text.specs.Answers.{nowhere}
+use Rattle.text.proofs.Places.{begins, behind-key}
 use Rattle.text.proofs.Turns.{rest, rest-ends, rest-done, rest-other, digit-range, rest-over, rest-digit}
 use Rattle.bit.proofs.Tests.{and-true}
 use borrow.Author.Tests.{lt-ltb, le-ltb}
@@ -23,57 +23,42 @@ abbrev μ-loop : tie.MeasureT-loop
 μ-loop s at key limit from i₀ v₀ i v = length s - i
 
 -- the number is read behind the key, and what is left of it from the place reached on
-line-read : (l : tie.At-loop Inv-loop μ-loop) → let k = l .before in let a = k .before .before .before .before .before .before .args in
-    numberLine (a .key .now) (a .limit) (drop (a .at) (a .s .now))
-    ≡ rest (a .limit) (ltb (k .before .from .given .0 .0) (l .loop .i)) (l .loop .v) (drop (l .loop .i) (a .s .now))
-unfolding numberLine
+line-read : (l : tie.At-loop Inv-loop μ-loop) → let w = l .before in let a = w .before .before .before .args in
+    numberLine (a .key .now) (a .limit) (drop (a .at) (a .s .now)) ≡ rest (a .limit) (ltb (w .skip .result) (l .loop .i)) (l .loop .v) (drop (l .loop .i) (a .s .now))
+unfolding numberLine number
 line-read l =
-    let k = l .before in
-    let w = k .before .before .before in
-    let a = w .before .before .before .args in
-    keyed (a .key .now) (number (a .limit)) (a .s .now) (a .at) (k .before .from .given .0 .0) (sym (w .skip .ensures) ∙ k .before .from .given .1)
+    let w = l .before in
+    let t = w .before .before .before in
+    let short : length (t .args .s .now) < nowhere = omega (arith, t .good) in
+    behind-key (t .args .s .now) short (t .args .key .now) (number (t .args .limit)) refl (t .args .at) (w .skip .result) (w .skip .ensures)
     ∙ l .loop .inv .3
 
 skip-requires : tie.Need-skip-requires Inv-loop μ-loop
 skip-requires c κs = search needs
 
-enum-known-from : tie.Need-enum-known-from Inv-loop μ-loop
-enum-known-from c = search needs
-
-enum-told : tie.Need-enum-told Inv-loop μ-loop
-enum-told c = search needs
-
-returns : tie.Need-returns Inv-loop μ-loop
-unfolding numberLine
-returns c =
-    let w = c .before .before in
-    let a = w .before .before .before .args in
-    let k = unkeyed (a .key .now) (number (a .limit)) (a .s .now) (a .at) (sym (w .skip .ensures) ∙ c .enum-told .given .1) in
-    ap (lineIn (a .s .now)) (sym k)
-
 loop-holds : tie.Need-loop-holds Inv-loop μ-loop
-loop-holds c = let f : ℕ = c .before .from .given .0 .0 in (omega arith, omega arith, λ e. refl, rw (le-ltb f f (omega arith)))
+loop-holds c = let f : ℕ = c .skip .result in (omega arith, omega arith, λ e. refl, rw (le-ltb f f (omega arith)))
 
 shared-slice-read-c : tie.Need-shared-slice-read-c Inv-loop μ-loop
 shared-slice-read-c c = omega arith
 
-cast-t16 : tie.Need-cast-t16 Inv-loop μ-loop
-cast-t16 c = omega arith
+cast-t15 : tie.Need-cast-t15 Inv-loop μ-loop
+cast-t15 c = omega arith
 
-add-t17 : tie.Need-add-t17 Inv-loop μ-loop
-add-t17 c = omega arith
+add-t16 : tie.Need-add-t16 Inv-loop μ-loop
+add-t16 c = omega arith
 
-returns-2 : tie.Need-returns-2 Inv-loop μ-loop
-returns-2 c =
+returns : tie.Need-returns Inv-loop μ-loop
+returns c =
     let l = c .before .before .before in
-    let s = l .before .before .before .before .before .before .before .args .s .now in
+    let s = l .before .before .before .before .args .s .now in
     let q = and-true _ _ (c .if1 .taken) in
     rw (line-read l, rest-done s _ (l .loop .i) (omega arith) _ _ (q .0) (q .1), begins s (l .loop .i + 1) (omega arith))
 
-returns-3 : tie.Need-returns-3 Inv-loop μ-loop
-returns-3 c =
+returns-2 : tie.Need-returns-2 Inv-loop μ-loop
+returns-2 c =
     let l = c .before .before .before .before in
-    let s = l .before .before .before .before .before .before .before .args .s .now in
+    let s = l .before .before .before .before .args .s .now in
     rw (line-read l, rest-other s _ (l .loop .i) (omega arith) _ _ (c .before .if1 .left) (c .if2 .taken))
 
 -- the byte is a digit
@@ -81,8 +66,8 @@ module _ (c : tie.Else2 Inv-loop μ-loop) where
   abbrev at : tie.At-loop Inv-loop μ-loop
   at = c .before .before .before .before
 
-  range : let s = at .before .before .before .before .before .before .before .args .s .now in let x = getD s (at .loop .i) 0 in
-      (48 ≤ x) × (x ≤ 57) × ((eqb (at .loop .v) 0 && ltb (at .before .before .from .given .0 .0) (at .loop .i)) ≡ false)
+  range : let s = at .before .before .before .before .args .s .now in let x = getD s (at .loop .i) 0 in
+      (48 ≤ x) × (x ≤ 57) × ((eqb (at .loop .v) 0 && ltb (at .before .skip .result) (at .loop .i)) ≡ false)
   range = digit-range _ _ (c .if2 .left)
 
 mul-v : tie.Need-mul-v Inv-loop μ-loop
@@ -97,10 +82,10 @@ cast-v c = omega (arith, range c .0, range c .1)
 add-v : tie.Need-add-v Inv-loop μ-loop
 add-v c = omega (arith, range c .0, range c .1)
 
-returns-4 : tie.Need-returns-4 Inv-loop μ-loop
-returns-4 c =
+returns-3 : tie.Need-returns-3 Inv-loop μ-loop
+returns-3 c =
     let l = at (c .before) in
-    let s = l .before .before .before .before .before .before .before .args .s .now in
+    let s = l .before .before .before .before .args .s .now in
     let r = range (c .before) in
     rw (line-read l, rest-over s _ (l .loop .i) (omega arith) (r .0) (r .1) _ _ (l .loop .inv .2) (r .2) (c .if3 .taken))
 
@@ -113,8 +98,8 @@ loop-less c = omega arith
 loop-again : tie.Need-loop-again Inv-loop μ-loop
 loop-again c =
     let l = at (c .before) in
-    let s = l .before .before .before .before .before .before .before .args .s .now in
-    let f : ℕ = l .before .before .from .given .0 .0 in
+    let s = l .before .before .before .before .args .s .now in
+    let f : ℕ = l .before .skip .result in
     let r = range (c .before) in
     let b : ltb f (l .loop .i + 1) ≡ true = lt-ltb f (l .loop .i + 1) (omega arith) in (
       omega arith,
@@ -125,8 +110,8 @@ loop-again c =
           ∙ rw b,
     )
 
-returns-5 : tie.Need-returns-5 Inv-loop μ-loop
-returns-5 c = rw (line-read (c .before), rest-ends _ _ _ _ _ (c .loop-test .left))
+returns-4 : tie.Need-returns-4 Inv-loop μ-loop
+returns-4 c = rw (line-read (c .before), rest-ends _ _ _ _ _ (c .loop-test .left))
 
 pub number-line-spec : {M : Type 1} → statement M
 number-line-spec =
@@ -135,21 +120,18 @@ number-line-spec =
     Inv-loop
     μ-loop
     skip-requires
-    enum-known-from
-    enum-told
-    returns
     loop-holds
     shared-slice-read-c
-    cast-t16
-    add-t17
+    cast-t15
+    add-t16
+    returns
     returns-2
-    returns-3
     mul-v
     sub-v
     cast-v
     add-v
-    returns-4
+    returns-3
     add-i
     loop-less
     loop-again
-    returns-5)
+    returns-4)
