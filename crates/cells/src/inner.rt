@@ -6,18 +6,18 @@ use ops::Op;
 use ops::Step;
 use ops::operand_count;
 use refusal::Verdict;
+use value::Header;
 use value::check_vector;
 use words::word_count;
 use work::inner::work;
 ghost use mathlib.Core.Path.{_≡_};
-ghost use mathlib.Core.Bool.{true, false, cond};
+ghost use mathlib.Core.Bool.{true, false};
 ghost use mathlib.Core.List.{_++_};
 ghost use Prim.Native.Nat.{_≤_, _+_};
-ghost use lib.ListN.{length, drop};
+ghost use lib.ListN.{length, take, drop};
 ghost use Rattle.words.specs.Planes.{wordCount, lent, planesOf};
 ghost use Rattle.ops.specs.Ops.{armsRefused, opHeader, opVector};
-ghost use Rattle.machine.specs.Machine.{names};
-ghost use Rattle.cells.specs.Cells.{cellWords, span, cellVector, cellAgrees, named};
+ghost use Rattle.cells.specs.Cells.{cellWords, span, cellVector, cellAgrees, putPlanes, named};
 
 // A cell's words in an arena.
 pub fn cell_words(c: Cell, arena: &[u64]) -> &[u64]
@@ -35,52 +35,29 @@ pub fn cell_agrees(c: Cell, at: usize, value: &[u64], unknown: &[u64]) -> bool
     requires { ⌜ (at ≤ length (now value)) × (length (now value) ≡ length (now unknown)) ⌝ }
     ensures { λ r. ⌜ r ≡ cellAgrees (lent (now (value .entry)) (now (unknown .entry))) at c ⌝ }
 {
-    let start = c.start;
     let h = c.header;
-    if start != at {
-        return false;
-    }
-    let n = word_count(h.width);
-    if value.len() - at < n {
-        return false;
-    }
-    let v = cell_words(c, value);
-    let u = cell_words(c, unknown);
-    match check_vector(h, v, u) {
-        Verdict::Refused(_) => false,
-        Verdict::Accepted => true,
+    if (c.start != at) | (value.len() - at < word_count(h.width)) {
+        false
+    } else {
+        let v = cell_words(c, value);
+        let u = cell_words(c, unknown);
+        match check_vector(h, v, u) {
+            Verdict::Refused(_) => false,
+            Verdict::Accepted => true,
+        }
     }
 }
 
-// Copies words to the front of a plane; its further words stay.
-pub fn copy_front(plane: &mut [u64], from: &[u64])
-    requires { ⌜ length (now from) ≤ length (now plane) ⌝ }
-    ensures { λ _. ⌜ now (plane .exit) ≡ now (from .entry) ++ drop (length (now (from .entry))) (now (plane .entry)) ⌝ }
+// Copies the first n words of a plane to the front of another, whose further words stay.
+pub fn copy_front(plane: &mut [u64], from: &[u64], n: usize)
+    requires { ⌜ (n ≤ length (now from)) × (n ≤ length (now plane)) ⌝ }
+    ensures { λ _. ⌜ now (plane .exit) ≡ take n (now (from .entry)) ++ drop n (now (plane .entry)) ⌝ }
 {
     let mut k = 0;
-    while k < from.len() {
+    while k < n {
         plane[k] = from[k];
         k += 1;
     }
-}
-
-// Whether each operand that the step's op uses names one of the first n cells.
-pub fn names_filled(n: usize, step: Step) -> bool
-    ensures { λ r. ⌜ r ≡ names n step ⌝ }
-{
-    let op = step.op;
-    let k = operand_count(op);
-    let a = step.a as usize;
-    let b = step.b as usize;
-    let c = step.c as usize;
-    (a < n) & ((k < 2) | (b < n)) & ((k < 3) | (c < n))
-}
-
-// The first number where the test holds, else the second.
-fn choose(test: bool, x: u32, y: u32) -> u32
-    ensures { λ r. ⌜ r ≡ cond test x y ⌝ }
-{
-    if test { x } else { y }
 }
 
 // The step, where the number of its first operand stands for each operand that its op does not use.
@@ -89,18 +66,30 @@ pub fn named(step: Step) -> Step
 {
     let op = step.op;
     let n = operand_count(op);
-    Step {
-        op: op,
-        a: step.a,
-        b: choose(n < 2, step.a, step.b),
-        c: choose(n < 3, step.a, step.c),
+    if n < 2 {
+        Step {
+            op: op,
+            a: step.a,
+            b: step.a,
+            c: step.a,
+        }
+    } else if n < 3 {
+        Step {
+            op: op,
+            a: step.a,
+            b: step.b,
+            c: step.a,
+        }
+    } else {
+        step
     }
 }
 
-// The op on three cells, into planes of the result's word count.
+// The op on three cells, its result of the header h put in the first words of two planes.
 pub fn work_cells(
     op: Op,
     o: Operands,
+    h: Header,
     pos: usize,
     arena_value: &[u64],
     arena_unknown: &[u64],
@@ -112,9 +101,11 @@ pub fn work_cells(
     requires { ⌜ cellAgrees (lent (now «arena_value») (now «arena_unknown»)) (o .b .start) (o .b) ≡ true ⌝ }
     requires { ⌜ cellAgrees (lent (now «arena_value») (now «arena_unknown»)) (o .c .start) (o .c) ≡ true ⌝ }
     requires { ⌜ armsRefused op (o .b .header) (o .c .header) ≡ false ⌝ }
-    requires { ⌜ (length (now ov) ≡ wordCount (opHeader op (o .a .header) (o .b .header) (o .c .header) .width)) × (length (now ou) ≡ wordCount (opHeader op (o .a .header) (o .b .header) (o .c .header) .width)) ⌝ }
-    ensures { λ _. ⌜ lent (now (ov .exit)) (now (ou .exit)) ≡ planesOf (opVector op (cellVector (lent (now («arena_value» .entry)) (now («arena_unknown» .entry))) (o .a)) (cellVector (lent (now («arena_value» .entry)) (now («arena_unknown» .entry))) (o .b)) (cellVector (lent (now («arena_value» .entry)) (now («arena_unknown» .entry))) (o .c)) pos .bits) ⌝ }
+    requires { ⌜ h ≡ opHeader op (o .a .header) (o .b .header) (o .c .header) ⌝ }
+    requires { ⌜ (wordCount (h .width) ≤ length (now ov)) × (wordCount (h .width) ≤ length (now ou)) ⌝ }
+    ensures { λ _. ⌜ lent (now (ov .exit)) (now (ou .exit)) ≡ putPlanes 0 (planesOf (opVector op (cellVector (lent (now («arena_value» .entry)) (now («arena_unknown» .entry))) (o .a)) (cellVector (lent (now («arena_value» .entry)) (now («arena_unknown» .entry))) (o .b)) (cellVector (lent (now («arena_value» .entry)) (now («arena_unknown» .entry))) (o .c)) pos .bits)) (lent (now (ov .entry)) (now (ou .entry))) ⌝ }
 {
+    let n = word_count(h.width);
     let av = cell_words(o.a, arena_value);
     let au = cell_words(o.a, arena_unknown);
     let bv = cell_words(o.b, arena_value);
@@ -133,7 +124,7 @@ pub fn work_cells(
         cv,
         cu,
         pos,
-        ov,
-        ou,
+        &mut ov[0..n],
+        &mut ou[0..n],
     );
 }

@@ -21,11 +21,11 @@ use Rattle.value.proofs.Checks.{Sound}
 pub not-given : {A : Type 0} (n : ℕ) (a : A) → _≡_ {A = Answer A} (refused n) (given a) → ⊥
 not-given n a h = let z : _≡_ {A = ℕ} 0 1 = cc in omega arith
 
-pub answer-given : (x : Answer Unit) (m n : ℕ) → after x (given m) ≡ given n → (x ≡ given tt) × (m ≡ n)
+pub answer-given : {A : Type 0} (x : Answer Unit) (m n : A) → after x (given m) ≡ given n → (x ≡ given tt) × (m ≡ n)
 answer-given (given t) m n h = (refl, cc)
 answer-given (refused k) m n h = absurd (not-given k n h)
 
-pub answer-refused : (x : Answer Unit) (m n : ℕ) → after x (given m) ≡ refused n → x ≡ refused n
+pub answer-refused : {A : Type 0} (x : Answer Unit) (m : A) (n : ℕ) → after x (given m) ≡ refused n → x ≡ refused n
 answer-refused (given t) m n h = absurd (not-given n m (sym h))
 answer-refused (refused k) m n h = let e : k ≡ n = cc in ap refused e
 

@@ -1,5 +1,6 @@
 -- An input that is not refused.
 --     input-accepted  what its check has found
+--     plane-whole, plane-front    a plane of its width's words is all of it, and the front of itself
 --     input-check     where a state holds cells, the check goes by headers alone
 --     input-holds     an accepted input is held behind the others
 use mathlib.Core.Path.{_≡_, refl, sym, ap, ap₂, subst}
@@ -9,7 +10,8 @@ use Prim.Native.Nat.{ℕ, _+_, _-_, _≤_, _<_}
 use native.Mathlib.Omega.{arith}
 use borrow.Author.Tests.{leb-false, ltb-false}
 use lib.Dec.{leb, ltb}
-use lib.ListN.{length}
+use lib.ListN.{length, take}
+use lib.Seq.{take-all}
 use Rattle.refusal.specs.Outcome.{Answer, outcome, after, orRefuse}
 use Rattle.refusal.specs.Outcome.Answer.{given, refused}
 use Rattle.words.specs.Planes.{wordCount, valuePlane, unknownPlane, Plane, Planes, planesOf}
@@ -51,6 +53,12 @@ input-accepted s h p n e =
           sound = vector-accepted h p ec;
           room = omega (arith, next-within s ea, ltb-false (length (s .arenas .value) - nextWord (s .store)) (wordCount (h .width)) ed);
         }
+
+pub plane-whole : (w : ℕ) (p : List ℕ) → Plane w p → take (wordCount w) p ≡ p
+plane-whole w p h = take-all (wordCount w) p (omega (arith, h .count))
+
+pub plane-front : (w : ℕ) (p : List ℕ) → Plane w p → (wordCount w ≤ length p) × Plane w (take (wordCount w) p)
+plane-front w p h = (omega (arith, h .count), subst (Plane w) (sym (plane-whole w p h)) h)
 
 -- ---- where a state holds the cells cs, and the input is a vector of as many bits as its header says
 

@@ -1,4 +1,5 @@
 -- A step that is not refused.
+--     header-vector   the header of the result, as the machine has it
 --     step-admitted   what its check has found
 --     named-fits      the cells that it names fit
 --     step-storable   a cell can hold its result
@@ -38,8 +39,7 @@ use Rattle.cells.proofs.Tail.{front-is}
 use Rattle.cells.proofs.Named.{Within, names-within}
 use Rattle.store.proofs.Named.{arms-named, header-named, vector-named}
 
--- the header of the result, as the machine has it
-header-vector : (s : State) (step : Step) → stepHeader (storeHeaders (s .store)) step ≡ stepVector s step .header
+pub header-vector : (s : State) (step : Step) → stepHeader (storeHeaders (s .store)) step ≡ stepVector s step .header
 header-vector s step = header-named (s .store) step ∙ sym (ap (λ (v : Vector). v .header) (vector-named s step))
 
 pub record Admitted (m : Memory) (step : Step) : Type 0 where

@@ -1,11 +1,12 @@
 -- The check of a store goes through its filled cells: `Left` says what is left of it at cell i, whose span is to begin at word k.
 use mathlib.Core.Path.{_≡_, refl, sym, ap, _∙_}
-use mathlib.Core.Bool.{Bool, true, false, _&&_}
+use mathlib.Core.Bool.{Bool, true, false, not, _&&_, _||_}
 use mathlib.Core.List.{List, [], _∷_}
 use Prim.Native.Nat.{ℕ, suc, _+_, _≤_, _<_}
 use native.Mathlib.Numerals.{add-one}
 use native.Mathlib.Omega.{arith}
-use borrow.Author.Tests.{le-leb, lt-leb, eq-eqb, ne-eqb}
+use borrow.Author.Tests.{ltb-true, ltb-false, eqb-true, eqb-false, le-leb, lt-leb, eq-eqb, ne-eqb}
+use lib.Dec.{eqb, ltb}
 use lib.ListN.{length, getD, drop, drop-of-length-le}
 use lib.Seq.{drop-cons, getD-take, length-take-le}
 use Rattle.refusal.specs.Outcome.{Answer, after}
@@ -73,12 +74,12 @@ module _ (s : State) (n : ℕ) where
   unfolding checkStore
   disagrees e = simp e
 
-  pub too-many : 320 < s .store .count → refused 14 ≡ checked
+  too-many : 320 < s .store .count → refused 14 ≡ checked
   unfolding agrees
   too-many h = disagrees (simp (lt-leb _ _ h))
 
   module _ (few : s .store .count ≤ 320) where
-    pub uneven : (length (s .arenas .value) ≡ length (s .arenas .unknown) → ⊥) → refused 14 ≡ checked
+    uneven : (length (s .arenas .value) ≡ length (s .arenas .unknown) → ⊥) → refused 14 ≡ checked
     unfolding agrees
     uneven h = disagrees (simp (le-leb _ _ few, ne-eqb _ _ h))
 
@@ -90,3 +91,21 @@ module _ (s : State) (n : ℕ) where
       pub all-right : cellsAgree (s .arenas) 0 (filled (s .store)) ≡ true → (m : ℕ) → m ≡ n → given m ≡ checked
       unfolding agrees checkStore
       all-right h m e = simp (le-leb _ _ few, eq-eqb _ _ level, h) (ap given e)
+
+  -- the two tests before the walk
+  pub misfit : ltb 320 (s .store .count) || not (eqb (length (s .arenas .value)) (length (s .arenas .unknown))) ≡ true → refused 14 ≡ checked
+  misfit h = go (ltb 320 (s .store .count)) refl (eqb (length (s .arenas .value)) (length (s .arenas .unknown))) refl h
+    where
+      go : (x : Bool) → ltb 320 (s .store .count) ≡ x → (y : Bool) → eqb (length (s .arenas .value)) (length (s .arenas .unknown)) ≡ y
+          → x || not y ≡ true → refused 14 ≡ checked
+      go true ex y ey h = too-many (ltb-true 320 (s .store .count) ex)
+      go false ex false ey h = uneven (ltb-false 320 (s .store .count) ex) (eqb-false (length (s .arenas .value)) (length (s .arenas .unknown)) ey)
+      go false ex true ey h = let z : _≡_ {A = ℕ} 0 1 = cc in absurd (omega arith)
+
+pub fit : (n v u : ℕ) → ltb 320 n || not (eqb v u) ≡ false → (n ≤ 320) × (v ≡ u)
+fit n v u h = go (ltb 320 n) refl (eqb v u) refl h
+  where
+    go : (x : Bool) → ltb 320 n ≡ x → (y : Bool) → eqb v u ≡ y → x || not y ≡ false → (n ≤ 320) × (v ≡ u)
+    go false ex true ey h = (ltb-false 320 n ex, eqb-true v u ey)
+    go false ex false ey h = let z : _≡_ {A = ℕ} 0 1 = cc in absurd (omega arith)
+    go true ex y ey h = let z : _≡_ {A = ℕ} 0 1 = cc in absurd (omega arith)

@@ -3,16 +3,20 @@
 use Prim.Native.Nat.{ℕ}
 use lib.ListN.{getD}
 use Rattle.refusal.specs.Outcome.{Answer, Outcome, outcome, after, orRefuse}
-use Rattle.refusal.specs.Outcome.Answer.{given}
+use Rattle.refusal.specs.Outcome.Answer.{given, refused}
+use Rattle.refusal.specs.Refusals.{refusalNumber}
 use Rattle.words.specs.Planes.{Planes, planesOf}
+use Rattle.value.specs.declared.Header.{Header}
 use Rattle.value.specs.Checks.{Vector}
 use Rattle.ops.specs.declared.Step.{Step}
-use Rattle.machine.specs.Machine.{checkStep, stepCell}
+use Rattle.machine.specs.Machine.{checkStep, stepHeader, stepCell}
 use Rattle.cells.specs.declared.Cell.{Cell}
 use Rattle.store.specs.declared.Store.{Store}
+use Rattle.store.specs.declared.StepAnswer.{StepAnswer}
+use Rattle.store.specs.declared.StepAnswer.the-variants as step-answer
 use Rattle.cells.specs.declared.Operands.{Operands}
 use Rattle.cells.specs.Cells.{putPlanes, named}
-use Rattle.store.specs.Store.{State, noCell, filled, storeHeaders, cellsOf, checkStore, roomOf, appended}
+use Rattle.store.specs.Store.{State, noCell, filled, storeHeaders, nextWord, cellsOf, checkStore, roomOf, appended}
 
 -- all that a call can change: the store, its arenas, and the scratch planes
 pub record Memory : Type 0 where
@@ -54,3 +58,19 @@ namedCells s step = record {
   b = cellNumber s (named step .b);
   c = cellNumber s (named step .c);
 }
+
+-- ---- where a step's cell is put
+
+-- the word at which it begins, the cells that the step names, and its header
+pub record Placed : Type 0 where
+  pub start : ℕ
+  pub operands : Operands
+  pub header : Header
+
+abbrev pub placed : Store → Step → Placed
+placed s step = record { start = nextWord s; operands = namedCells s step; header = stepHeader (storeHeaders s) step }
+
+-- the answer in the paper's numbers
+abbrev pub stepAnswer : StepAnswer → Answer Placed
+stepAnswer (step-answer.At n o h) = given (record { start = n; operands = o; header = h })
+stepAnswer (step-answer.Refused r) = refused (refusalNumber r)

@@ -11,7 +11,7 @@ use value::check_vector;
 use words::word_count;
 ghost use mathlib.Core.Path.{_≡_};
 ghost use Prim.Native.Nat.{_≤_, _<_, _+_};
-ghost use lib.ListN.{length};
+ghost use lib.ListN.{length, take};
 ghost use Rattle.refusal.specs.Outcome.{after};
 ghost use Rattle.refusal.specs.Outcome.Answer.{given};
 ghost use Rattle.words.specs.Planes.{wordCount, lent, Plane};
@@ -24,16 +24,12 @@ pub mod step;
 pub fn check_store(s: Store, value: &[u64], unknown: &[u64]) -> PlaceAnswer
     ensures { λ r. ⌜ placeAnswer r ≡ after (checkStore (state s (lent (now (value .entry)) (now (unknown .entry))))) (given (nextWord s)) ⌝ }
 {
-    let n = s.count;
-    if 320 < n {
-        return PlaceAnswer::Refused(Refusal::BadStore);
-    }
-    if value.len() != unknown.len() {
+    if (320 < s.count) | (value.len() != unknown.len()) {
         return PlaceAnswer::Refused(Refusal::BadStore);
     }
     let mut at = 0;
     let mut i = 0;
-    while i < n {
+    while i < s.count {
         let c = s.cells[i];
         if !cell_agrees(c, at, value, unknown) {
             return PlaceAnswer::Refused(Refusal::BadStore);
@@ -60,23 +56,24 @@ pub fn place_input(
         PlaceAnswer::Refused(r) => PlaceAnswer::Refused(r),
         PlaceAnswer::At(at) => {
             if 320 <= s.count {
-                return PlaceAnswer::Refused(Refusal::StoreFull);
-            }
-            match check_vector(h, value, unknown) {
-                Verdict::Refused(r) => PlaceAnswer::Refused(r),
-                Verdict::Accepted => {
-                    let n = word_count(h.width);
-                    if arena_value.len() - at < n {
-                        return PlaceAnswer::Refused(Refusal::NoRoom);
+                PlaceAnswer::Refused(Refusal::StoreFull)
+            } else {
+                match check_vector(h, value, unknown) {
+                    Verdict::Refused(r) => PlaceAnswer::Refused(r),
+                    Verdict::Accepted => {
+                        if arena_value.len() - at < word_count(h.width) {
+                            PlaceAnswer::Refused(Refusal::NoRoom)
+                        } else {
+                            PlaceAnswer::At(at)
+                        }
                     }
-                    PlaceAnswer::At(at)
                 }
             }
         }
     }
 }
 
-// Puts a vector behind the last cell, where the next one begins.
+// Puts the vector that two planes begin with behind the last cell, where the next one begins.
 pub fn append(
     s: Store,
     at: usize,
@@ -87,19 +84,20 @@ pub fn append(
     arena_unknown: &mut [u64],
 ) -> Store
     requires { ⌜ (s .count < 320) × (at ≡ nextWord s) ⌝ }
-    requires { ⌜ Plane (h .width) (now value) ⌝ }
-    requires { ⌜ Plane (h .width) (now unknown) ⌝ }
+    requires { ⌜ (wordCount (h .width) ≤ length (now value)) × Plane (h .width) (take (wordCount (h .width)) (now value)) ⌝ }
+    requires { ⌜ (wordCount (h .width) ≤ length (now unknown)) × Plane (h .width) (take (wordCount (h .width)) (now unknown)) ⌝ }
     requires { ⌜ (at + wordCount (h .width) ≤ length (now «arena_value»)) × (at + wordCount (h .width) ≤ length (now «arena_unknown»)) ⌝ }
-    ensures { λ r. ⌜ state r (lent (now («arena_value» .exit)) (now («arena_unknown» .exit))) ≡ appended (vector h (lent (now (value .entry)) (now (unknown .entry)))) (state s (lent (now («arena_value» .entry)) (now («arena_unknown» .entry)))) ⌝ }
+    ensures { λ r. ⌜ state r (lent (now («arena_value» .exit)) (now («arena_unknown» .exit))) ≡ appended (vector h (lent (take (wordCount (h .width)) (now (value .entry))) (take (wordCount (h .width)) (now (unknown .entry))))) (state s (lent (now («arena_value» .entry)) (now («arena_unknown» .entry)))) ⌝ }
 {
-    copy_front(&mut arena_value[at..], value);
-    copy_front(&mut arena_unknown[at..], unknown);
-    let n = s.count;
+    let n = word_count(h.width);
+    copy_front(&mut arena_value[at..], value, n);
+    copy_front(&mut arena_unknown[at..], unknown, n);
+    let k = s.count;
     let mut t = s;
-    t.cells[n] = Cell {
+    t.cells[k] = Cell {
         start: at,
         header: h,
     };
-    t.count = n + 1;
+    t.count = k + 1;
     t
 }

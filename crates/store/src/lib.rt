@@ -1,6 +1,8 @@
 // The cell store: at most 320 vectors, numbered from 0, whose words lie one behind the other in two lent arenas. The store goes in by value and
 // comes back by value, inside the answer.
 use cells::Cell;
+use cells::Operands;
+use cells::inner::work_cells;
 use ops::Step;
 use refusal::Refusal;
 use value::Header;
@@ -37,6 +39,12 @@ pub enum PlaceAnswer {
     Refused(Refusal),
 }
 
+// The word at which the cell of a step begins, the cells that the step names and its result's header, or the refusal.
+pub enum StepAnswer {
+    At(usize, Operands, Header),
+    Refused(Refusal),
+}
+
 impl Store {
     // An empty store.
     pub fn new() -> Store
@@ -69,10 +77,9 @@ impl Store {
                 store: self,
             },
             PlaceAnswer::At(at) => {
-                let n = self.count;
                 let s = inner::append(self, at, h, value, unknown, arena_value, arena_unknown);
                 Stored {
-                    answer: CellAnswer::Added(n),
+                    answer: CellAnswer::Added(self.count),
                     store: s,
                 }
             }
@@ -90,22 +97,44 @@ impl Store {
     ) -> Stored
         ensures { λ r. ⌜ outcome (cellAnswer (r .answer)) (memory (state (r .store) (lent (now («arena_value» .exit)) (now («arena_unknown» .exit)))) (lent (now («scratch_value» .exit)) (now («scratch_unknown» .exit)))) ≡ addStep (memory (state self (lent (now («arena_value» .entry)) (now («arena_unknown» .entry)))) (lent (now («scratch_value» .entry)) (now («scratch_unknown» .entry)))) step ⌝ }
     {
-        let place = inner::step::place_step(
+        match inner::step::place_step(
             self,
             step,
             arena_value,
             arena_unknown,
-            scratch_value,
-            scratch_unknown,
-        );
-        inner::step::put_step(
-            self,
-            step,
-            place,
-            arena_value,
-            arena_unknown,
-            scratch_value,
-            scratch_unknown,
-        )
+            scratch_value.len(),
+            scratch_unknown.len(),
+        ) {
+            StepAnswer::Refused(r) => Stored {
+                answer: CellAnswer::Refused(r),
+                store: self,
+            },
+            StepAnswer::At(at, o, h) => {
+                let op = step.op;
+                work_cells(
+                    op,
+                    o,
+                    h,
+                    step.c as usize,
+                    arena_value,
+                    arena_unknown,
+                    scratch_value,
+                    scratch_unknown,
+                );
+                let s = inner::append(
+                    self,
+                    at,
+                    h,
+                    scratch_value,
+                    scratch_unknown,
+                    arena_value,
+                    arena_unknown,
+                );
+                Stored {
+                    answer: CellAnswer::Added(self.count),
+                    store: s,
+                }
+            }
+        }
     }
 }

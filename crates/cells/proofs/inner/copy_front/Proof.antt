@@ -6,16 +6,16 @@ use native.Mathlib.Nat.{zero-add}
 use native.Mathlib.Numerals.{add-one}
 use native.Mathlib.Omega.{arith}
 use borrow.Author.Needs.{needs}
-use lib.ListN.{length, set, getD, drop, length-set}
-use lib.Seq.{paste, paste-zero, paste-suc, take-length}
+use lib.ListN.{length, set, getD, take, drop, length-set}
+use lib.Seq.{paste, paste-zero, paste-suc}
 use Rattle.cells.proofs.inner.copy_front.Statement.{statement}
 use Rattle.cells.proofs.inner.copy_front.Tie as tie
 
 abbrev Inv-loop : tie.InvT-loop
-Inv-loop plane₀ from k₀ plane k = (plane ≡ paste plane₀ 0 from k) × (k ≤ length from) × (length plane ≡ length plane₀)
+Inv-loop plane₀ from n k₀ plane k = (plane ≡ paste plane₀ 0 from k) × (k ≤ n) × (length plane ≡ length plane₀)
 
 abbrev μ-loop : tie.MeasureT-loop
-μ-loop plane₀ from k₀ plane k = length from - k
+μ-loop plane₀ from n k₀ plane k = n - k
 
 loop-holds : tie.Need-loop-holds Inv-loop μ-loop
 loop-holds c = (paste-zero (c .args .plane .now) 0 (c .args .from .now), search needs, refl)
@@ -39,7 +39,7 @@ loop-less : tie.Need-loop-less Inv-loop μ-loop
 loop-less c = search needs
 
 -- one word more
-more : (d s l : List ℕ) (j : ℕ) → l ≡ paste d 0 s j → j < length s → length s ≤ length d → set l j (getD s j 0) ≡ paste d 0 s (j + 1)
+more : (d s l : List ℕ) (j : ℕ) → l ≡ paste d 0 s j → j < length s → j < length d → set l j (getD s j 0) ≡ paste d 0 s (j + 1)
 more d s l j e h k =
     let f : 0 + j < length d = omega arith in
     ap (λ (x : List ℕ). set x j (getD s j 0)) e
@@ -51,7 +51,7 @@ loop-again : tie.Need-loop-again Inv-loop μ-loop
 loop-again c =
     let l = c .before .before in
     let s = l .before in (
-      more (s .args .plane .now) (s .args .from .now) (l .loop .plane) (l .loop .k) (l .loop .inv .0) (search needs) (s .pre),
+      more (s .args .plane .now) (s .args .from .now) (l .loop .plane) (l .loop .k) (l .loop .inv .0) (search needs) (search needs),
       search needs,
       simp length-set (omega arith),
     )
@@ -59,17 +59,13 @@ loop-again c =
 same-length : tie.Need-same-length Inv-loop μ-loop
 same-length c = search needs
 
-done : (d s l : List ℕ) (j : ℕ) → l ≡ paste d 0 s j → j ≡ length s → l ≡ s ++ drop (length s) d
-done d s l j e h =
-    e
-    ∙ ap (paste d 0 s) h
-    ∙ ap (λ (x : List ℕ). x ++ drop (0 + length s) d) (take-length s)
-    ∙ ap (λ (k : ℕ). s ++ drop k d) (zero-add (length s))
+done : (d s l : List ℕ) (j n : ℕ) → l ≡ paste d 0 s j → j ≡ n → l ≡ take n s ++ drop n d
+done d s l j n e h = e ∙ ap (paste d 0 s) h ∙ ap (λ (k : ℕ). take n s ++ drop k d) (zero-add n)
 
 returns : tie.Need-returns Inv-loop μ-loop
 returns c =
     let l = c .before in
-    done (l .before .args .plane .now) (l .before .args .from .now) (l .loop .plane) (l .loop .k) (l .loop .inv .0) (omega arith)
+    done (l .before .args .plane .now) (l .before .args .from .now) (l .loop .plane) (l .loop .k) (l .before .args .n) (l .loop .inv .0) (omega arith)
 
 pub copy-front-spec : {M : Type 1} → statement M
 copy-front-spec =

@@ -1,9 +1,11 @@
 -- `cells::inner::named`: by the number of operands.
-use mathlib.Core.Path.{_≡_, ap, _∙_}
-use mathlib.Core.Bool.{cond}
-use Prim.Native.Nat.{ℕ}
+use mathlib.Core.Path.{_≡_}
+use mathlib.Core.Bool.{true, false}
+use Prim.Native.Nat.{_≤_, _<_}
+use native.Mathlib.Omega.{arith}
 use lib.Dec.{ltb}
-use Rattle.cells.specs.Cells.{named}
+use Rattle.ops.specs.Ops.{operands}
+use borrow.Author.Tests.{lt-ltb, le-ltb}
 use borrow.Author.Needs.{needs}
 use Rattle.cells.proofs.inner.named.Statement.{statement}
 use Rattle.cells.proofs.inner.named.Tie as tie
@@ -11,20 +13,29 @@ use Rattle.cells.proofs.inner.named.Tie as tie
 operand-count-requires : tie.Need-operand-count-requires
 operand-count-requires c κs = search needs
 
-choose-requires : tie.Need-choose-requires
-choose-requires c κs = search needs
-
-choose-requires-2 : tie.Need-choose-requires-2
-choose-requires-2 c κs = search needs
-
 returns : tie.Need-returns
 returns c =
+    let k = c .before in
+    let n = operands (k .before .args .step .op) in
+    let two : n < 2 = omega (arith, k .operand-count .ensures, c .if1 .taken) in
+    let three : n < 3 = omega arith in
+    simp (lt-ltb _ _ two, lt-ltb _ _ three)
+
+returns-2 : tie.Need-returns-2
+returns-2 c =
     let k = c .before .before in
-    let s = k .before .args .step in
-    let second : c .before .choose .result ≡ named s .b =
-    c .before .choose .ensures ∙ ap (λ (n : ℕ). cond (ltb n 2) (s .a) (s .b)) (k .operand-count .ensures) in
-    let third : c .choose2 .result ≡ named s .c = c .choose2 .ensures ∙ ap (λ (n : ℕ). cond (ltb n 3) (s .a) (s .c)) (k .operand-count .ensures) in
-    λ i. record { op = s .op; a = s .a; b = second i; c = third i }
+    let n = operands (k .before .args .step .op) in
+    let two : 2 ≤ n = omega (arith, k .operand-count .ensures, c .before .if1 .left) in
+    let three : n < 3 = omega (arith, k .operand-count .ensures, c .if2 .taken) in
+    simp (le-ltb _ _ two, lt-ltb _ _ three)
+
+returns-3 : tie.Need-returns-3
+returns-3 c =
+    let k = c .before .before in
+    let n = operands (k .before .args .step .op) in
+    let two : 2 ≤ n = omega (arith, k .operand-count .ensures, c .before .if1 .left) in
+    let three : 3 ≤ n = omega (arith, k .operand-count .ensures, c .if2 .left) in
+    simp (le-ltb _ _ two, le-ltb _ _ three)
 
 pub named-spec : {M : Type 1} → statement M
-named-spec = tie.close (tie.spec operand-count-requires choose-requires choose-requires-2 returns)
+named-spec = tie.close (tie.spec operand-count-requires returns returns-2 returns-3)

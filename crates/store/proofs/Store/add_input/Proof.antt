@@ -1,15 +1,18 @@
 -- `store::Store::add_input`: refused as checked, else put behind the last cell.
-use mathlib.Core.Path.{_≡_, sym, ap, _∙_}
+use mathlib.Core.Path.{_≡_, sym, ap, ap₂, _∙_}
+use mathlib.Core.List.{List}
+use Prim.Native.Nat.{ℕ}
 use native.Mathlib.Omega.{arith}
 use lib.ListN.{length-map}
 use Rattle.refusal.specs.Refusals.{refusalNumber}
 use Rattle.refusal.specs.Outcome.{outcome}
 use Rattle.refusal.specs.Outcome.Answer.{given}
 use Rattle.words.specs.Planes.{Planes, lent}
-use Rattle.store.specs.Store.{State, state, nextWord, checkInput, placeAnswer}
+use Rattle.value.specs.Checks.{vector}
+use Rattle.store.specs.Store.{State, state, nextWord, appended, checkInput, placeAnswer}
 use Rattle.store.proofs.Answers.{answer-given, answer-refused}
 use Rattle.store.proofs.Agreed.{state-agrees}
-use Rattle.store.proofs.Inputs.{Accepted, input-accepted}
+use Rattle.store.proofs.Inputs.{Accepted, input-accepted, plane-whole, plane-front}
 use borrow.Author.Needs.{needs}
 use Rattle.store.proofs.Store.add_input.Statement.{statement}
 use Rattle.store.proofs.Store.add_input.Tie as tie
@@ -52,9 +55,9 @@ append-requires c κs =
     let level = state-agrees (all (k t)) (a .agreed) .level in (
       (a .few, sym (found t .1)),
       (
-        a .sound .planes .value-plane,
+        plane-front _ _ (a .sound .planes .value-plane),
         (
-          a .sound .planes .unknown-plane,
+          plane-front _ _ (a .sound .planes .unknown-plane),
           (omega (arith, a .room, found t .1), omega (arith, a .room, found t .1, level)),
         ),
       ),
@@ -82,7 +85,13 @@ returns-2 : tie.Need-returns-2
 returns-2 c =
     let a = c .before .before .before .before in
     let t = a .before .before .before in
-    simp (found t .0) (ap (λ (s : State). outcome (given (st (k t) .args .self .count)) s) (a .append .ensures))
+    let h = st (k t) .args .h in
+    let p = accepted t .sound .planes in
+    simp (found t .0)
+    (ap (λ (s : State). outcome (given (st (k t) .args .self .count)) s)
+    (a .append .ensures
+    ∙ ap₂ (λ (v u : List ℕ). appended (vector h (lent v u)) (all (k t)))
+    (plane-whole (h .width) (input (k t) .value) (p .value-plane)) (plane-whole (h .width) (input (k t) .unknown) (p .unknown-plane))))
 
 pub add-input-spec : {M : Type 1} → statement M
 add-input-spec =

@@ -1,19 +1,25 @@
--- `store::inner::append`: each arena's end part is written, and the planes are those of the vector that they hold.
-use mathlib.Core.Path.{_≡_, ap, ap₂, _∙_}
-use mathlib.Core.List.{List}
-use Prim.Native.Nat.{ℕ, _+_, _^_, _<_}
-use lib.ListN.{getD, set}
-use Rattle.words.specs.Planes.{Planes, lent, planesOf, fromPlanes, Plane}
+-- `store::inner::append`: each arena's end part is written, and the words are the planes of the vector that they hold.
+use mathlib.Core.Path.{_≡_, sym, ap, ap₂, _∙_}
+use mathlib.Core.List.{List, [], _∷_, _++_}
+use Prim.Native.Nat.{ℕ, zero, suc, _+_, _-_, _^_, _≤_, _<_}
+use native.Mathlib.Omega.{arith}
+use lib.ListN.{length, getD, set, take, drop}
+use lib.Seq.{length-take-le}
+use borrow.Rule.Slice.PartMut.{putMid}
+use Rattle.words.specs.Planes.{wordCount, Planes, lent, planesOf, fromPlanes, Plane}
 use Rattle.bits.proofs.Splice.{planes-again}
 use Rattle.value.specs.declared.Header.{Header}
 use Rattle.value.specs.Checks.{vector}
 use Rattle.store.specs.declared.Store.{Store}
-use Rattle.cells.specs.Cells.{putPlanes}
+use Rattle.cells.specs.Cells.{putWords, putPlanes}
 use Rattle.store.specs.Store.{state, nextWord, appended}
 use Rattle.cells.proofs.Tail.{tail-back}
 use borrow.Author.Needs.{needs}
 use Rattle.store.proofs.inner.append.Statement.{statement}
 use Rattle.store.proofs.inner.append.Tie as tie
+
+word-count-requires : tie.Need-word-count-requires
+word-count-requires c κs = search needs
 
 mul-copy-front : tie.Need-mul-copy-front
 mul-copy-front c = search needs
@@ -45,8 +51,8 @@ part-copy-front-end-2 c = search needs
 copy-front-requires-2 : tie.Need-copy-front-requires-2
 copy-front-requires-2 c κs = search needs
 
-mul-t13 : tie.Need-mul-t13
-mul-t13 c = search needs
+mul-t14 : tie.Need-mul-t14
+mul-t14 c = search needs
 
 element-set-from-t : tie.Need-element-set-from-t
 element-set-from-t c = search needs
@@ -71,26 +77,47 @@ module _ (s : Store) (k : ℕ) (h : Header) (v u : List ℕ) (a : Planes) (e : k
       ap (λ (p : Planes). state (more s h k) (putPlanes k p a)) (planes-again (h .width) v u hv hu fv fu)
       ∙ ap (λ (n : ℕ). state (more s h n) (putPlanes n (planesOf (fromPlanes (h .width) v u)) a)) e
 
+none : 0 < 2 ^ 64
+none = omega arith
+
+-- the first words of a plane are words
+fits-take : (n : ℕ) (p : List ℕ) → ((i : ℕ) → getD p i 0 < 2 ^ 64) → (i : ℕ) → getD (take n p) i 0 < 2 ^ 64
+fits-take zero p f i = none
+fits-take (suc n) [] f i = none
+fits-take (suc n) (x ∷ xs) f zero = f 0
+fits-take (suc n) (x ∷ xs) f (suc i) = fits-take n xs (λ j. f (suc j)) i
+
+-- words put in are the first of a plane
+back : (k n m : ℕ) (arena left p : List ℕ) → n ≡ m → m ≤ length p → left ≡ take n p ++ drop n (take (length arena - k) (drop k arena))
+    → putMid k (length arena - k) arena left ≡ putWords k (take m p) arena
+back k n m arena left p e h q =
+    let size : length (take m p) ≡ m = length-take-le m p h in
+    tail-back k arena left (take m p)
+    (q ∙ ap (λ (i : ℕ). take i p ++ drop i (take (length arena - k) (drop k arena))) e ∙ ap (λ (i : ℕ). take m p ++ drop i (take (length arena - k) (drop k arena))) (sym size))
+
 returns : tie.Need-returns
 returns c =
     let second = c .before .before in
     let first = second .before .before .before .before in
-    let known = first .before .before .before .before in
+    let w = first .before .before in
+    let known = w .before .before .before in
     let st = known .before .before in
     let g = st .args in
+    let n = wordCount (g .h .width) in
     let av = g .arena-value .now in
     let au = g .arena-unknown .now in
     ap (λ (p : Planes). state (more (g .s) (g .h) (g .at)) p)
     (ap₂ lent
-    (tail-back (g .at) av (first .copy-front .last .0) (g .value .now) (first .copy-front .ensures))
-    (tail-back (g .at) au (second .copy-front2 .last .0) (g .unknown .now) (second .copy-front2 .ensures)))
-    ∙ is-appended (g .s) (g .at) (g .h) (g .value .now) (g .unknown .now) (lent av au) (st .pre .0 .1) (st .pre .1 .0) (st .pre .1 .1 .0)
-    (λ k. known .before .shared-slice-known .given k .fits) (λ k. known .shared-slice-known2 .given k .fits)
+    (back (g .at) (w .word-count .result) n av (first .copy-front .last .0) (g .value .now) (w .word-count .ensures) (st .pre .1 .0 .0) (first .copy-front .ensures))
+    (back (g .at) (w .word-count .result) n au (second .copy-front2 .last .0) (g .unknown .now) (w .word-count .ensures) (st .pre .1 .1 .0 .0) (second .copy-front2 .ensures)))
+    ∙ is-appended (g .s) (g .at) (g .h) (take n (g .value .now)) (take n (g .unknown .now)) (lent av au) (st .pre .0 .1) (st .pre .1 .0 .1) (st .pre .1 .1 .0 .1)
+    (fits-take n (g .value .now) (λ k. known .before .shared-slice-known .given k .fits)) (fits-take n (g .unknown .now) (λ k. known .shared-slice-known2 .given k .fits))
 
 pub append-spec : {M : Type 1} → statement M
 append-spec =
     tie.close
     (tie.spec
+    word-count-requires
     mul-copy-front
     sub-copy-front
     part-copy-front-start
@@ -101,7 +128,7 @@ append-spec =
     part-copy-front-start-2
     part-copy-front-end-2
     copy-front-requires-2
-    mul-t13
+    mul-t14
     element-set-from-t
     add-t
     same-length

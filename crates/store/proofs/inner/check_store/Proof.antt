@@ -11,15 +11,16 @@ use Rattle.cells.specs.declared.Cell.{Cell}
 use Rattle.cells.specs.Cells.{cellAgrees}
 use Rattle.store.specs.Store.{State, state, noCell, nextWord}
 use Rattle.cells.proofs.Spans.{cell-fits}
-use Rattle.store.proofs.Walk.{Left, left-start, left-more, left-wrong, left-done, too-many, uneven, cell-wrong, all-right}
+use Rattle.store.proofs.Walk.{Left, left-start, left-more, left-wrong, left-done, cell-wrong, all-right, misfit, fit}
 use Rattle.store.proofs.inner.check_store.Statement.{statement}
 use Rattle.store.proofs.inner.check_store.Tie as tie
 
 abbrev Inv-loop : tie.InvT-loop
-Inv-loop value unknown s n at₀ i₀ at i = (i ≤ n) × (at ≤ length value) × Left (lent value unknown) s i at
+Inv-loop value unknown s at₀ i₀ at i =
+    (s .count ≤ 320) × (length value ≡ length unknown) × (i ≤ s .count) × (at ≤ length value) × Left (lent value unknown) s i at
 
 abbrev μ-loop : tie.MeasureT-loop
-μ-loop value unknown s n at₀ i₀ at i = n - i
+μ-loop value unknown s at₀ i₀ at i = s .count - i
 
 abbrev all : tie.Start Inv-loop μ-loop → State
 all st = state (st .args .t1) (lent (st .args .value .now) (st .args .unknown .now))
@@ -33,29 +34,25 @@ module _ (a : tie.After-cell-agrees Inv-loop μ-loop) where
   l = a .before .before .before
 
   abbrev st : tie.Start Inv-loop μ-loop
-  st = l .before .before .before .before .before
+  st = l .before .before .before .before
 
   abbrev cell : Cell
   cell = getD (st .args .t1 .cells) (l .loop .i) noCell
 
   whole : st .args .t1 .count ≤ length (st .args .t1 .cells)
-  whole = omega (arith, places st, l .before .before .if1 .left)
+  whole = omega (arith, places st, l .loop .inv .0)
 
   told : (b : Bool) → a .cell-agrees .result ≡ b → cellAgrees (all st .arenas) (l .loop .at) cell ≡ b
   told b e = sym (a .cell-agrees .ensures) ∙ e
 
 returns : tie.Need-returns Inv-loop μ-loop
-returns c = too-many (all (c .before .before .before)) (nextWord (c .before .before .before .args .t1)) (c .if1 .taken)
-
-returns-2 : tie.Need-returns-2 Inv-loop μ-loop
-returns-2 c =
-    let st = c .before .before .before .before in
-    uneven (all st) (nextWord (st .args .t1)) (c .before .if1 .left) (c .if2 .taken)
+returns c = let st = c .before .before .before in misfit (all st) (nextWord (st .args .t1)) (c .if1 .taken)
 
 loop-holds : tie.Need-loop-holds Inv-loop μ-loop
 loop-holds c =
-    let st = c .before .before .before .before in
-    (omega arith, omega arith, left-start (all st .arenas) (st .args .t1))
+    let st = c .before .before .before in
+    let f = fit (st .args .t1 .count) (length (st .args .value .now)) (length (st .args .unknown .now)) (c .if1 .left) in
+    (f .0, f .1, omega arith, omega arith, left-start (all st .arenas) (st .args .t1))
 
 mul-c : tie.Need-mul-c Inv-loop μ-loop
 mul-c c = search needs
@@ -66,13 +63,13 @@ element-copy-out-c c = search needs
 cell-agrees-requires : tie.Need-cell-agrees-requires Inv-loop μ-loop
 cell-agrees-requires c κs = search needs
 
-returns-3 : tie.Need-returns-3 Inv-loop μ-loop
-returns-3 c =
+returns-2 : tie.Need-returns-2 Inv-loop μ-loop
+returns-2 c =
     let a = c .before in
     let t = st a in
-    cell-wrong (all t) (nextWord (t .args .t1)) (l a .before .before .if1 .left) (l a .before .if2 .left)
-    (left-wrong (all t .arenas) (t .args .t1) (l a .loop .i) (l a .loop .at) (whole a) (l a .loop .inv .2) noCell (a .before .before .loop-test .taken)
-    (told a false (not-true _ (c .if3 .taken))))
+    cell-wrong (all t) (nextWord (t .args .t1)) (l a .loop .inv .0) (l a .loop .inv .1)
+    (left-wrong (all t .arenas) (t .args .t1) (l a .loop .i) (l a .loop .at) (whole a) (l a .loop .inv .4) noCell (a .before .before .loop-test .taken)
+    (told a false (not-true _ (c .if2 .taken))))
 
 word-count-requires : tie.Need-word-count-requires Inv-loop μ-loop
 word-count-requires c κs = search needs
@@ -80,7 +77,7 @@ word-count-requires c κs = search needs
 add-at : tie.Need-add-at Inv-loop μ-loop
 add-at c =
     let a = c .before .before .before in
-    let f = cell-fits (all (st a) .arenas) (l a .loop .at) (cell a) (told a true (not-false _ (c .before .before .if3 .left))) in
+    let f = cell-fits (all (st a) .arenas) (l a .loop .at) (cell a) (told a true (not-false _ (c .before .before .if2 .left))) in
     omega (arith, f .begins, f .within, c .word-count .ensures)
 
 add-i : tie.Need-add-i Inv-loop μ-loop
@@ -93,22 +90,24 @@ loop-again : tie.Need-loop-again Inv-loop μ-loop
 loop-again c =
     let a = c .before .before .before in
     let t = st a in
-    let e = told a true (not-false _ (c .before .before .if3 .left)) in
+    let e = told a true (not-false _ (c .before .before .if2 .left)) in
     let f = cell-fits (all t .arenas) (l a .loop .at) (cell a) e in (
+      l a .loop .inv .0,
+      l a .loop .inv .1,
       search needs,
       omega (arith, f .begins, f .within, c .word-count .ensures),
-      left-more (all t .arenas) (t .args .t1) (l a .loop .i) (l a .loop .at) (whole a) (l a .loop .inv .2) noCell (a .before .before .loop-test .taken)
+      left-more (all t .arenas) (t .args .t1) (l a .loop .i) (l a .loop .at) (whole a) (l a .loop .inv .4) noCell (a .before .before .loop-test .taken)
           e (l a .loop .at + c .word-count .result) (omega (arith, c .word-count .ensures)),
     )
 
-returns-4 : tie.Need-returns-4 Inv-loop μ-loop
-returns-4 c =
+returns-3 : tie.Need-returns-3 Inv-loop μ-loop
+returns-3 c =
     let m = c .before in
-    let t = m .before .before .before .before .before in
+    let t = m .before .before .before .before in
     let s = t .args .t1 in
-    let h : s .count ≤ length (s .cells) = omega (arith, places t, m .before .before .if1 .left) in
-    let d = left-done (all t .arenas) s (m .loop .i) (m .loop .at) h (m .loop .inv .2) (c .loop-test .left) in
-    all-right (all t) (nextWord s) (m .before .before .if1 .left) (m .before .if2 .left) (d .1) (m .loop .at) (d .0)
+    let h : s .count ≤ length (s .cells) = omega (arith, places t, m .loop .inv .0) in
+    let d = left-done (all t .arenas) s (m .loop .i) (m .loop .at) h (m .loop .inv .4) (c .loop-test .left) in
+    all-right (all t) (nextWord s) (m .loop .inv .0) (m .loop .inv .1) (d .1) (m .loop .at) (d .0)
 
 pub check-store-spec : {M : Type 1} → statement M
 check-store-spec =
@@ -117,15 +116,14 @@ check-store-spec =
     Inv-loop
     μ-loop
     returns
-    returns-2
     loop-holds
     mul-c
     element-copy-out-c
     cell-agrees-requires
-    returns-3
+    returns-2
     word-count-requires
     add-at
     add-i
     loop-less
     loop-again
-    returns-4)
+    returns-3)

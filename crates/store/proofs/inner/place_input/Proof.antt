@@ -55,12 +55,6 @@ enum-known-r c = search needs
 enum-known-at : tie.Need-enum-known-at
 enum-known-at c = search needs
 
-returns : tie.Need-returns
-returns c =
-    let t = c .before .before in
-    let full : 320 ≤ length (storeHeaders (st (k t) .args .s)) = omega (arith, counted t, c .if1 .taken) in
-    simp (found t .0, le-leb _ _ full)
-
 check-vector-requires : tie.Need-check-vector-requires
 check-vector-requires c κs = search needs
 
@@ -70,34 +64,40 @@ enum-known-r-2 c = search needs
 enum-told : tie.Need-enum-told
 enum-told c = search needs
 
+sub-if2 : tie.Need-sub-if2
+sub-if2 c =
+    let t = c .before .before .before .before .before in
+    omega (arith, within t, found t .1)
+
 word-count-requires : tie.Need-word-count-requires
 word-count-requires c κs = search needs
 
-sub-if2 : tie.Need-sub-if2
-sub-if2 c =
-    let t = c .before .before .before .before .before .before in
-    omega (arith, within t, found t .1)
+returns : tie.Need-returns
+returns c =
+    let k = c .before .before .before in
+    let r = c .before .r .given .0 .0 in
+    simp (answer-refused (checkStore (all k)) (nextWord (st k .args .s)) (refusalNumber r) (sym (k .check-store .ensures) ∙ ap placeAnswer (c .before .r .given .1)))
 
 returns-2 : tie.Need-returns-2
 returns-2 c =
+    let t = c .before .before in
+    let full : 320 ≤ length (storeHeaders (st (k t) .args .s)) = omega (arith, counted t, c .if1 .taken) in
+    simp (found t .0, le-leb _ _ full)
+
+returns-3 : tie.Need-returns-3
+returns-3 c =
+    let v = c .before .before .before in
+    let t = v .before .before .before in
+    simp (found t .0, lt-leb _ _ (few t (v .before .if1 .left)), sym (v .check-vector .ensures) ∙ ap verdict (c .before .r2 .given .1))
+
+returns-4 : tie.Need-returns-4
+returns-4 c =
     let w = c .before in
     let v = w .before .before .before in
     let t = v .before .before .before in
     let a = st (k t) .args in
     let h : length (a .arena-value .now) - nextWord (a .s) < wordCount (a .h .width) = omega (arith, found t .1, w .word-count .ensures, c .if2 .taken) in
     simp (found t .0, lt-leb _ _ (few t (v .before .if1 .left)), sym (v .check-vector .ensures) ∙ ap verdict (w .before .enum-told .given .1), lt-ltb _ _ h)
-
-returns-3 : tie.Need-returns-3
-returns-3 c =
-    let k = c .before .before .before in
-    let r = c .before .r .given .0 .0 in
-    simp (answer-refused (checkStore (all k)) (nextWord (st k .args .s)) (refusalNumber r) (sym (k .check-store .ensures) ∙ ap placeAnswer (c .before .r .given .1)))
-
-returns-4 : tie.Need-returns-4
-returns-4 c =
-    let v = c .before .before .before in
-    let t = v .before .before .before in
-    simp (found t .0, lt-leb _ _ (few t (v .before .if1 .left)), sym (v .check-vector .ensures) ∙ ap verdict (c .before .r2 .given .1))
 
 returns-5 : tie.Need-returns-5
 returns-5 c =
@@ -116,12 +116,12 @@ place-input-spec =
     check-store-requires
     enum-known-r
     enum-known-at
-    returns
     check-vector-requires
     enum-known-r-2
     enum-told
-    word-count-requires
     sub-if2
+    word-count-requires
+    returns
     returns-2
     returns-3
     returns-4

@@ -1,46 +1,188 @@
--- `store::inner::step::place_step`: the store's check decides, then the step's.
-use mathlib.Core.Path.{_≡_, sym, ap, _∙_}
-use mathlib.Core.Bool.{true}
+-- `store::inner::step::place_step`: the store's check decides, then each test on the way.
+use mathlib.Core.Path.{_≡_, refl, sym, ap, _∙_}
+use mathlib.Core.Bool.{Bool, true, false, not, _||_, cond}
+use mathlib.Core.List.{List}
+use Prim.Native.Nat.{ℕ, _-_, _≤_, _<_, min}
 use native.Mathlib.Omega.{arith}
-use Rattle.refusal.specs.declared.Verdict.{Verdict}
+use borrow.Author.Tests.{ltb-true, ltb-false, le-leb, lt-leb, lt-ltb, le-ltb}
+use lib.Dec.{leb, ltb}
+use lib.ListN.{length, getD, length-map}
+use lib.Seq.{getD-take}
 use Rattle.refusal.specs.Refusals.{refusalNumber}
-use Rattle.refusal.specs.Outcome.{verdict}
-use Rattle.refusal.specs.Outcome.Answer.{given}
-use Rattle.words.specs.Planes.{Planes, lent}
-use Rattle.machine.specs.Machine.{checkStep}
-use Rattle.store.specs.Store.{State, state, storeHeaders, nextWord, agrees, checkStore, roomOf, placeAnswer}
+use Rattle.refusal.specs.Outcome.{Answer, after}
+use Rattle.refusal.specs.Outcome.Answer.{given, refused}
+use Rattle.words.specs.Planes.{wordCount, lent}
+use Rattle.value.specs.declared.Header.{Header}
+use Rattle.ops.specs.declared.Step.{Step}
+use Rattle.ops.specs.Ops.{armsRefused, opHeader}
+use Rattle.machine.specs.Machine.{headerAt, names, stepHeader, wordsTaken, checkStep}
+use Rattle.cells.specs.declared.Operands.{Operands}
+use Rattle.cells.specs.Cells.{named}
+use Rattle.cells.proofs.Named.{Within, names-within, names-tested}
+use Rattle.store.specs.Store.{State, state, noCell, storeHeaders, nextWord, agrees, checkStore, placeAnswer}
+use Rattle.store.specs.Step.{cellNumber, namedCells}
 use Rattle.store.proofs.Answers.{answer-given, answer-refused}
-use Rattle.store.proofs.Agreed.{store-accepted, state-agrees, next-within}
+use Rattle.store.proofs.Agreed.{store-accepted, state-agrees, headers-count, next-within}
+use Rattle.store.proofs.Named.{arms-named, header-named}
 use borrow.Author.Needs.{needs}
 use Rattle.store.proofs.inner.step.place_step.Statement.{statement}
 use Rattle.store.proofs.inner.step.place_step.Tie as tie
 
 abbrev st : tie.After-check-store → tie.Start
-st k = k .before .before .before .before .before
+st k = k .before .before .before
 
 abbrev all : tie.After-check-store → State
-all k = state (st k .args .s) (lent (st k .args .arena-value .now) (st k .args .arena-unknown .now))
+all k = state (st k .args .t1) (lent (st k .args .arena-value .now) (st k .args .arena-unknown .now))
 
-abbrev scratch : tie.After-check-store → Planes
-scratch k = lent (st k .args .scratch-value .now) (st k .args .scratch-unknown .now)
+abbrev hs : tie.After-check-store → List Header
+hs k = storeHeaders (st k .args .t1)
+
+places : (st : tie.Start) → length (st .args .t1 .cells) ≡ 320
+places st = simp length-map at (st .good .0 .1 .1 .0 .1 .0 .1)
 
 -- the store's check found where the next cell begins
 module _ (t : tie.After-known-told2) where
   abbrev k : tie.After-check-store
   k = t .before .before .before
 
-  found : (checkStore (all k) ≡ given tt) × (nextWord (st k .args .s) ≡ t .before .at .given .0 .0)
+  found : (checkStore (all k) ≡ given tt) × (nextWord (st k .args .t1) ≡ t .before .at .given .0 .0)
   found =
-      answer-given (checkStore (all k)) (nextWord (st k .args .s)) (t .before .at .given .0 .0)
+      answer-given (checkStore (all k)) (nextWord (st k .args .t1)) (t .before .at .given .0 .0)
       (sym (k .check-store .ensures) ∙ ap placeAnswer (t .before .at .given .1))
 
   agreed : agrees (all k) ≡ true
   agreed = store-accepted (all k) (found .0)
 
--- what the step's check found
-decided : (a : tie.After-check-step) (v : Verdict) → a .check-step .result ≡ v → let s = k (a .before) in
-    checkStep (roomOf (all s .arenas) (scratch s)) (storeHeaders (st s .args .s)) (st s .args .step) ≡ verdict v
-decided a v e = sym (a .check-step .ensures) ∙ ap verdict e
+  counted : length (hs k) ≡ st k .args .t1 .count
+  counted = headers-count (st k .args .t1) (places (st k)) (state-agrees (all k) agreed .few)
+
+  within : nextWord (st k .args .t1) ≤ length (all k .arenas .value)
+  within = next-within (all k) agreed
+
+-- not 12
+module _ (e : tie.Else1) where
+  abbrev named-at : tie.After-named
+  named-at = e .before .before .before .before
+
+  abbrev begin : tie.After-check-store
+  begin = k (named-at .before)
+
+  few : length (hs begin) < 320
+  few = omega (arith, counted (named-at .before), e .if1 .left)
+
+  -- what the test of the names tells
+  told : (b : Bool) → let n = st begin .args .t1 .count in let t = named-at .named .result in
+      leb n (t .a) || leb n (t .b) || leb n (t .c) ≡ b → names n (st begin .args .step) ≡ not b
+  told b h =
+      let n = st begin .args .t1 .count in
+      names-tested n (st begin .args .step) b (ap (λ (t : Step). leb n (t .a) || leb n (t .b) || leb n (t .c)) (sym (named-at .named .ensures)) ∙ h)
+
+  names-all : (b : Bool) → names (st begin .args .t1 .count) (st begin .args .step) ≡ b → names (length (hs begin)) (st begin .args .step) ≡ b
+  names-all b h = ap (λ (n : ℕ). names n (st begin .args .step)) (counted (named-at .before)) ∙ h
+
+-- not 11
+module _ (e : tie.Else2) where
+  abbrev first : tie.Else1
+  first = e .before
+
+  abbrev start : tie.Start
+  start = st (begin first)
+
+  filled : Within (start .args .t1 .count) (start .args .step)
+  filled = names-within (start .args .t1 .count) (start .args .step) (told first false (e .if2 .left))
+
+  -- each number of the step that is read
+  number : (f : Step → ℕ) → f (named-at first .named .result) ≡ f (named (start .args .step))
+  number f = ap f (named-at first .named .ensures)
+
+  read : (i j : ℕ) → i ≡ j → j < start .args .t1 .count → getD (start .args .t1 .cells) i noCell ≡ cellNumber (start .args .t1) j
+  read i j e h =
+      let t = start .args .t1 in
+      ap (λ (k : ℕ). getD (t .cells) k noCell) e ∙ sym (getD-take (t .count) (t .cells) j noCell h)
+
+  -- the cells that were read
+  abbrev cells : Operands
+  cells =
+      let t = named-at first .named .result in
+      record { a = getD (start .args .t1 .cells) (t .a) noCell; b = getD (start .args .t1 .cells) (t .b) noCell; c = getD (start .args .t1 .cells) (t .c) noCell }
+
+  cells-named : cells ≡ namedCells (start .args .t1) (start .args .step)
+  cells-named =
+      let r = named-at first .named .result in
+      let t = named (start .args .step) in
+      λ i. record {
+        a = read (r .a) (t .a) (number (λ (t : Step). t .a)) (filled .a) i;
+        b = read (r .b) (t .b) (number (λ (t : Step). t .b)) (filled .b) i;
+        c = read (r .c) (t .c) (number (λ (t : Step). t .c)) (filled .c) i;
+      }
+
+-- ---- the result
+
+abbrev second : tie.After-arms-refused → tie.Else2
+second a = a .before .before .before .before .before .before
+
+module _ (a : tie.After-arms-refused) where
+  abbrev from : tie.Start
+  from = start (second a)
+
+  abbrev headers : List Header
+  headers = storeHeaders (from .args .t1)
+
+  header : a .before .before .result-header .result ≡ stepHeader headers (from .args .step)
+  header =
+      a .before .before .result-header .ensures
+      ∙ ap (λ (o : Operands). opHeader (from .args .step .op) (o .a .header) (o .b .header) (o .c .header)) (cells-named (second a))
+      ∙ sym (header-named (from .args .t1) (from .args .step))
+
+  words : a .before .word-count .result ≡ wordCount (stepHeader headers (from .args .step) .width)
+  words = a .before .word-count .ensures ∙ ap (λ (h : Header). wordCount (h .width)) header
+
+  -- what was told of the arms
+  arms : (b : Bool) → a .arms-refused .result ≡ b
+      → armsRefused (from .args .step .op) (headerAt headers (from .args .step .b)) (headerAt headers (from .args .step .c)) ≡ b
+  arms b e =
+      arms-named (from .args .t1) (from .args .step)
+      ∙ ap (λ (o : Operands). armsRefused (from .args .step .op) (o .b .header) (o .c .header)) (sym (cells-named (second a)))
+      ∙ sym (a .arms-refused .ensures) ∙ e
+
+  named-all : names (length headers) (from .args .step) ≡ true
+  named-all = names-all (first (second a)) true (told (first (second a)) false (second a .if2 .left))
+
+-- the three tests of the room are the two of the machine
+room : (d w v u : ℕ) → _≡_ {A = Answer Unit} (after (cond (ltb d w) (refused 13) (given tt)) (cond (ltb (min v u) w) (refused 13) (given tt)))
+    (cond (ltb d w || ltb v w || ltb u w) (refused 13) (given tt))
+room d w v u = go (ltb d w) (ltb v w) refl (ltb u w) refl
+  where
+    go : (x y : Bool) → ltb v w ≡ y → (z : Bool) → ltb u w ≡ z
+        → _≡_ {A = Answer Unit} (after (cond x (refused 13) (given tt)) (cond (ltb (min v u) w) (refused 13) (given tt))) (cond (x || y || z) (refused 13) (given tt))
+    go true y ey z ez = refl
+    go false true ey z ez = let h : min v u < w = omega (arith, ltb-true v w ey) in simp (lt-ltb (min v u) w h)
+    go false false ey true ez = let h : min v u < w = omega (arith, ltb-true u w ez) in simp (lt-ltb (min v u) w h)
+    go false false ey false ez = let h : w ≤ min v u = omega (arith, ltb-false v w ey, ltb-false u w ez) in simp (le-ltb (min v u) w h)
+
+-- what the last test decides
+module _ (e : tie.Else3) (b : Bool) where
+  abbrev a : tie.After-arms-refused
+  a = e .before
+
+  abbrev g : tie.Start
+  g = from a
+
+  abbrev place : tie.After-known-told2
+  place = named-at (first (second a)) .before
+
+  decided : let w = a .before .word-count .result in
+      ltb (length (g .args .arena-value .now) - place .before .at .given .0 .0) w || ltb (g .args .value) w || ltb (g .args .unknown) w ≡ b
+      → checkStep (record { arena = length (g .args .arena-value .now); scratch = min (g .args .value) (g .args .unknown) }) (headers a) (g .args .step)
+      ≡ cond b (refused 13) (given tt)
+  unfolding checkStep
+  decided h =
+      let n = length (g .args .arena-value .now) in
+      let w = wordCount (stepHeader (headers a) (g .args .step) .width) in
+      simp (lt-leb _ _ (few (first (second a))), named-all a, arms a false (e .if3 .left))
+      (room (n - wordsTaken (headers a)) w (g .args .value) (g .args .unknown)
+      ∙ (λ i. cond (ltb (n - found place .1 i) (sym (words a) i) || ltb (g .args .value) (sym (words a) i) || ltb (g .args .unknown) (sym (words a) i)) (refused 13) (given tt))
+      ∙ ap (λ (t : Bool). cond t (refused 13) (given tt)) h)
 
 check-store-requires : tie.Need-check-store-requires
 check-store-requires c κs = search needs
@@ -51,32 +193,85 @@ enum-known-r c = search needs
 enum-known-at : tie.Need-enum-known-at
 enum-known-at c = search needs
 
-check-step-requires : tie.Need-check-step-requires
-check-step-requires c κs =
-    let s = all (k c) in
-    (state-agrees s (agreed c) .few, sym (found c .1), omega (arith, found c .1, next-within s (agreed c)))
+named-requires : tie.Need-named-requires
+named-requires c κs = search needs
 
-enum-known-r-2 : tie.Need-enum-known-r-2
-enum-known-r-2 c = search needs
+cast-a : tie.Need-cast-a
+cast-a c = search needs
 
-enum-told : tie.Need-enum-told
-enum-told c = search needs
+cast-b : tie.Need-cast-b
+cast-b c = search needs
+
+cast-c : tie.Need-cast-c
+cast-c c = search needs
+
+mul-t32 : tie.Need-mul-t32
+mul-t32 c = search needs
+
+element-copy-out-t35 : tie.Need-element-copy-out-t35
+element-copy-out-t35 c = omega (arith, filled c .a, number c (λ (t : Step). t .a), first c .if1 .left)
+
+mul-t36 : tie.Need-mul-t36
+mul-t36 c = search needs
+
+element-copy-out-t39 : tie.Need-element-copy-out-t39
+element-copy-out-t39 c = let e = c .before in omega (arith, filled e .b, number e (λ (t : Step). t .b), first e .if1 .left)
+
+mul-t40 : tie.Need-mul-t40
+mul-t40 c = search needs
+
+element-copy-out-t43 : tie.Need-element-copy-out-t43
+element-copy-out-t43 c = let e = c .before .before in omega (arith, filled e .c, number e (λ (t : Step). t .c), first e .if1 .left)
+
+result-header-requires : tie.Need-result-header-requires
+result-header-requires c κs = search needs
+
+word-count-requires : tie.Need-word-count-requires
+word-count-requires c κs = search needs
+
+arms-refused-requires : tie.Need-arms-refused-requires
+arms-refused-requires c κs = search needs
+
+sub-if4 : tie.Need-sub-if4
+sub-if4 c =
+    let t = named-at (first (second (c .before))) .before in
+    omega (arith, within t, found t .1)
 
 returns : tie.Need-returns
 returns c =
     let k = c .before .before .before in
     let r = c .before .r .given .0 .0 in
-    simp (answer-refused (checkStore (all k)) (nextWord (st k .args .s)) (refusalNumber r) (sym (k .check-store .ensures) ∙ ap placeAnswer (c .before .r .given .1)))
+    simp (answer-refused (checkStore (all k)) (nextWord (st k .args .t1)) (refusalNumber r) (sym (k .check-store .ensures) ∙ ap placeAnswer (c .before .r .given .1)))
 
 returns-2 : tie.Need-returns-2
+unfolding checkStep
 returns-2 c =
-    let a = c .before .before .before in
-    simp (found (a .before) .0, decided a _ (c .before .r2 .given .1))
+    let t = c .before .before .before .before .before in
+    let full : 320 ≤ length (hs (k t)) = omega (arith, counted t, c .if1 .taken) in
+    simp (found t .0, le-leb _ _ full)
 
 returns-3 : tie.Need-returns-3
+unfolding checkStep
 returns-3 c =
-    let a = c .before .before in
-    simp (found (a .before) .0, decided a _ (c .enum-told .given .1)) (ap given (sym (found (a .before) .1)))
+    let e = c .before in
+    simp (found (named-at e .before) .0, lt-leb _ _ (few e), names-all e false (told e true (c .if2 .taken)))
+
+returns-4 : tie.Need-returns-4
+unfolding checkStep
+returns-4 c =
+    let a = c .before in
+    let e = first (second a) in
+    simp (found (named-at e .before) .0, lt-leb _ _ (few e), named-all a, arms a true (c .if3 .taken))
+
+returns-5 : tie.Need-returns-5
+returns-5 c = let e = c .before in simp (found (place e true) .0, decided e true (c .if4 .taken))
+
+returns-6 : tie.Need-returns-6
+returns-6 c =
+    let e = c .before in
+    let t = place e false in
+    simp (found t .0, decided e false (c .if4 .left))
+    (λ i. given (record { start = sym (found t .1) i; operands = cells-named (second (e .before)) i; header = header (e .before) i }))
 
 pub place-step-spec : {M : Type 1} → statement M
 place-step-spec =
@@ -85,9 +280,23 @@ place-step-spec =
     check-store-requires
     enum-known-r
     enum-known-at
-    check-step-requires
-    enum-known-r-2
-    enum-told
+    named-requires
+    cast-a
+    cast-b
+    cast-c
+    mul-t32
+    element-copy-out-t35
+    mul-t36
+    element-copy-out-t39
+    mul-t40
+    element-copy-out-t43
+    result-header-requires
+    word-count-requires
+    arms-refused-requires
+    sub-if4
     returns
     returns-2
-    returns-3)
+    returns-3
+    returns-4
+    returns-5
+    returns-6)
