@@ -18,28 +18,7 @@ ghost use Rattle.steplist.specs.Answers.{inputIn, listIn};
 ghost use Rattle.inputs.specs.Inputs.{addListed, addInputs};
 ghost use Rattle.inputs.specs.Limits.{AllThin, InputReadable, Readable};
 
-// Adds an input of the list, its planes filled from its characters into two lent planes.
-fn add_filled(
-    s: Store,
-    x: Input,
-    text: &[u8],
-    value: &mut [u64],
-    unknown: &mut [u64],
-    arena_value: &mut [u64],
-    arena_unknown: &mut [u64],
-) -> Stored
-    requires { ⌜ InputReadable (now text) x ⌝ }
-    requires { ⌜ (length (now value) ≡ wordCount (x .header .width)) × (length (now unknown) ≡ wordCount (x .header .width)) ⌝ }
-    ensures { λ r. ⌜ outcome (cellAnswer (r .answer)) (state (r .store) (lent (now («arena_value» .exit)) (now («arena_unknown» .exit)))) ≡ addListed (state s (lent (now («arena_value» .entry)) (now («arena_unknown» .entry)))) (inputIn (now (text .entry)) x) ⌝ }
-{
-    let h = x.header;
-    let place = x.place;
-    let width = h.width;
-    fill_planes(text, place, width, value, unknown);
-    s.add_input(h, value, unknown, arena_value, arena_unknown)
-}
-
-// Adds an input of the list; its planes have at most 64 words.
+// Adds an input of the list, its planes filled from its characters; they have at most 64 words.
 fn add_listed(
     s: Store,
     x: Input,
@@ -54,15 +33,8 @@ fn add_listed(
     let n = word_count(h.width);
     let mut value = [0u64; 64];
     let mut unknown = [0u64; 64];
-    add_filled(
-        s,
-        x,
-        text,
-        &mut value[0..n],
-        &mut unknown[0..n],
-        arena_value,
-        arena_unknown,
-    )
+    fill_planes(text, x.place, h.width, &mut value[0..n], &mut unknown[0..n]);
+    s.add_input(h, &value[0..n], &unknown[0..n], arena_value, arena_unknown)
 }
 
 // Adds the inputs of the list to an empty store, up to the first that is refused.
