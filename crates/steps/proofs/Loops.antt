@@ -5,7 +5,7 @@ use mathlib.Core.List.{List, _∷_}
 use Prim.Native.Nat.{ℕ, suc, _+_, _*_, _≤_, _<_}
 use native.Mathlib.Numerals.{add-one}
 use native.Mathlib.Omega.{arith}
-use lib.ListN.{length, drop}
+use lib.ListN.{length, drop, length-set}
 use Rattle.refusal.specs.Outcome.{Answer, Outcome, outcome, orRefuse}
 use Rattle.refusal.specs.Outcome.Answer.{given, refused}
 use Rattle.words.specs.Vector.{tabulate}
@@ -29,16 +29,24 @@ stepped-thin m step n = go (checkMemory m step)
     go (given u) = thin-put (stepVector (m .state) step .header) (m .state .store) n (step-thin (m .state) step n)
     go (refused k) = n
 
+stepped-places : (m : Memory) (step : Step) → length (m .state .store .cells) ≡ 320 → length (addStep m step .left .state .store .cells) ≡ 320
+stepped-places m step n = go (checkMemory m step)
+  where
+    go : (x : Answer Unit) → length (orRefuse x m (outcome (given (m .state .store .count)) (stepped (stepVector (m .state) step) m)) .left .state .store .cells) ≡ 320
+    go (given u) = simp length-set n
+    go (refused k) = n
+
 -- the memory m and the place `at` of the buffer, with the steps from k on, leave what the memory `from` leaves with all n of them
 pub record Walked (from : Memory) (out : List ℕ) (n : ℕ) (f : ℕ → Step) (m : Memory) (d : List ℕ) (at k : ℕ) : Type 0 where
+  pub places : length (m .state .store .cells) ≡ 320
   pub thin : AllThin (m .state .store)
   pub short : at ≤ k * 4111
   pub long : length d ≡ length out
   pub left : finalOf (runSteps from 0 (tabulate n f)) (buffer out 0) ≡ finalOf (runSteps m k (drop k (tabulate n f))) (buffer d at)
 
 module _ (n : ℕ) (f : ℕ → Step) (from : Memory) (out : List ℕ) where
-  pub walk-start : AllThin (from .state .store) → Walked from out n f from out 0 0
-  walk-start t = record { thin = t; short = omega arith; long = refl; left = refl }
+  pub walk-start : length (from .state .store .cells) ≡ 320 → AllThin (from .state .store) → Walked from out n f from out 0 0
+  walk-start p t = record { places = p; thin = t; short = omega arith; long = refl; left = refl }
 
   module _ (m : Memory) (d : List ℕ) (at k : ℕ) (h : Walked from out n f m d at k) where
     pub walk-done : n ≤ k → finalOf (runSteps from 0 (tabulate n f)) (buffer out 0) ≡ final m (put (buffer d at) (doneText k))
@@ -61,6 +69,7 @@ module _ (n : ℕ) (f : ℕ → Step) (from : Memory) (out : List ℕ) where
             sym (shown ∙ ap (λ x. put (buffer d at) (resultText x k (stepVector (m .state) (f k) .bits))) g)
             in
             record {
+              places = subst (λ (z : Memory). length (z .state .store .cells) ≡ 320) left (stepped-places m (f k) (h .places));
               thin = subst (λ (z : Memory). AllThin (z .state .store)) left (stepped-thin m (f k) (h .thin));
               short = omega (arith, short, h .short);
               long = same ∙ h .long;

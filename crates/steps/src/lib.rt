@@ -1,8 +1,9 @@
 // A step list, run: its text is read whole, its inputs and steps are added to an empty store, and the lines that it writes stand in a buffer.
+use inputs::inner::add_inputs;
+use output::inner::put_refused;
 use refusal::Verdict;
 use steplist::read_list;
 use store::Store;
-use turn::inner::put_refusal;
 ghost use mathlib.Core.Path.{_≡_};
 ghost use Rattle.words.specs.Planes.{lent};
 ghost use Rattle.lines.specs.Buffer.{buffer};
@@ -34,20 +35,34 @@ pub fn run(
     let verdict = a.verdict;
     match verdict {
         Verdict::Refused(r) => {
-            let n = put_refusal(r, 0, out, 0);
+            let n = refusal::number(r) as u32;
             RunAnswer {
                 store: Store::new(),
-                length: n,
+                length: put_refused(out, 0, n, 0),
             }
         }
-        Verdict::Accepted => inner::run_list(
-            list,
-            text,
-            arena_value,
-            arena_unknown,
-            scratch_value,
-            scratch_unknown,
-            out,
-        ),
+        Verdict::Accepted => {
+            let fed = add_inputs(list, text, arena_value, arena_unknown);
+            let s = fed.store;
+            let fed_verdict = fed.verdict;
+            match fed_verdict {
+                Verdict::Refused(q) => {
+                    let m = refusal::number(q) as u32;
+                    RunAnswer {
+                        store: s,
+                        length: put_refused(out, 0, m, 0),
+                    }
+                }
+                Verdict::Accepted => inner::run_steps(
+                    list,
+                    s,
+                    arena_value,
+                    arena_unknown,
+                    scratch_value,
+                    scratch_unknown,
+                    out,
+                ),
+            }
+        }
     }
 }

@@ -1,6 +1,7 @@
 -- What is written of a step: its refusal's number, or the cell that it adds.
 --     number-small    a refusal's number has at most two digits
 --     step-shown      a step that adds a cell leaves its bits at the front of the scratch planes
+--     answer-shown    so what is shown of a step stands there
 use mathlib.Core.Path.{_≡_, refl, sym, ap, _∙_, subst}
 use Prim.Native.Nat.{ℕ, _<_}
 use native.Mathlib.Omega.{arith}
@@ -18,7 +19,7 @@ use Rattle.store.specs.Store.{noCell}
 use Rattle.store.specs.Step.{Memory, checkMemory, stepVector, stepped, addStep}
 use Rattle.store.proofs.Steps.{step-admitted, step-storable, worked-front}
 use Rattle.inputs.specs.Limits.{AllThin}
-use Rattle.turn.specs.Turn.{Front, frontBits}
+use Rattle.turn.specs.Turn.{resultText, Front, frontBits, Showable, shownBits}
 use Rattle.inputs.proofs.Thin.{thin-put}
 use Rattle.turn.proofs.Thin.{step-thin}
 
@@ -67,3 +68,10 @@ step-shown m n step c places thin e =
       front = subst (λ (h : Header). Front h (stepped v m .scratch)) (sym k) (record { thin = step-thin (m .state) step thin; value-long = f .value-long; unknown-long = f .unknown-long });
       bits = ap (λ (h : Header). frontBits (h .width) (stepped v m .scratch)) k ∙ ap (λ (r : Vector). r .bits) (f .holds);
     }))
+
+pub answer-shown : (m n : Memory) (step : Step) (a : Answer ℕ) → length (m .state .store .cells) ≡ 320 → AllThin (m .state .store) → outcome a n ≡ addStep m step
+    → Showable a (n .state .store) (n .scratch)
+    × ((k : ℕ) → resultText a k (shownBits a (n .state .store) (n .scratch)) ≡ resultText a k (stepVector (m .state) step .bits))
+answer-shown m n step (given c) places thin e =
+    let s = step-shown m n step c places thin e in ((s .few, s .front), λ k. ap (resultText (given c) k) (s .bits))
+answer-shown m n step (refused r) places thin e = (tt, λ k. refl)

@@ -3,9 +3,9 @@ use mathlib.Core.Path.{_≡_, refl, sym, ap, _∙_}
 use mathlib.Core.List.{List}
 use Prim.Native.Nat.{ℕ, _-_, _≤_, _<_}
 use native.Mathlib.Omega.{arith}
-use lib.ListN.{length, getD}
+use lib.ListN.{length, getD, length-map}
 use Rattle.refusal.specs.Refusals.{refusalNumber}
-use Rattle.refusal.specs.Outcome.{outcome}
+use Rattle.refusal.specs.Outcome.{Answer, outcome}
 use Rattle.words.specs.Planes.{lent}
 use Rattle.lines.specs.Buffer.{buffer, put}
 use Rattle.ops.specs.declared.Step.{Step}
@@ -15,7 +15,8 @@ use Rattle.output.specs.Output.{doneText}
 use Rattle.store.specs.Step.{Memory, memory, stepVector, addStep}
 use Rattle.steplist.specs.declared.StepList.{StepList}
 use Rattle.ops.specs.Ops.{noStep}
-use Rattle.turn.specs.Turn.{resultText}
+use Rattle.turn.specs.Turn.{resultText, Showable, shownBits}
+use Rattle.turn.proofs.Results.{answer-shown}
 use Rattle.steps.specs.Run.{final}
 use Rattle.steps.proofs.Loops.{Walked, walk-start, walk-more, walk-last, walk-done}
 use borrow.Author.Needs.{needs}
@@ -47,10 +48,10 @@ abbrev μ-loop : tie.MeasureT-loop
 abbrev entered : tie.Start Inv-loop μ-loop → Memory
 entered s = let a = s .args in held (a .from) (a .arena-value .now) (a .arena-unknown .now) (a .scratch-value .now) (a .scratch-unknown .now)
 
--- in a turn, once the step is run
-module _ (a : tie.After-run-step Inv-loop μ-loop) where
+-- in a turn, once the step is added
+module _ (a : tie.After-add-step Inv-loop μ-loop) where
   abbrev l : tie.At-loop Inv-loop μ-loop
-  l = a .before .before .before .before .before .before .before .before
+  l = a .before .before .before .before .before .before .before
 
   abbrev st : tie.Start Inv-loop μ-loop
   st = l .before .before .before .before .before .before
@@ -60,22 +61,36 @@ module _ (a : tie.After-run-step Inv-loop μ-loop) where
 
   abbrev left : Memory
   left =
-      let r = a .run-step .last .1 .1 .1 in
-      held (a .run-step .result .stored .store) (r .0) (r .1 .0) (r .1 .1 .0) (r .1 .1 .1 .0)
+      let r = a .add-step .last .1 .1 in
+      held (a .add-step .result .store) (r .0) (r .1 .0) (r .1 .1 .0) (r .1 .1 .1 .0)
 
   abbrev place : ℕ
   place = l .loop .k
 
-  -- the step's answer and its lines
-  called : outcome (cellAnswer (a .run-step .result .stored .answer)) left ≡ addStep m (step (st .args .t1) place)
-  called = a .run-step .ensures .0
+  abbrev answer : Answer ℕ
+  answer = cellAnswer (a .add-step .result .answer)
 
-  shown : buffer (a .run-step .last .1 .1 .1 .1 .1 .1 .1 .0) (a .run-step .result .at)
-      ≡ put (buffer (l .loop .out) (l .loop .at)) (resultText (cellAnswer (a .run-step .result .stored .answer)) place (stepVector (m .state) (step (st .args .t1) place) .bits))
-  shown = a .run-step .ensures .1 .0
+  called : outcome answer left ≡ addStep m (step (st .args .t1) place)
+  called = a .add-step .ensures
 
   inside : l .loop .k < st .args .t1 .«step_count»
-  inside = a .before .before .before .before .before .before .before .loop-test .taken
+  inside = a .before .before .before .before .before .before .loop-test .taken
+
+  told : Showable answer (left .state .store) (left .scratch)
+      × ((k : ℕ) → resultText answer k (shownBits answer (left .state .store) (left .scratch)) ≡ resultText answer k (stepVector (m .state) (step (st .args .t1) place) .bits))
+  told = let i = l .loop .inv .walked in answer-shown m left (step (st .args .t1) place) answer (i .places) (i .thin) called
+
+-- and its lines are written
+module _ (p : tie.After-put-step Inv-loop μ-loop) where
+  abbrev add : tie.After-add-step Inv-loop μ-loop
+  add = p .before .before .before .before .before .before .before .before .before .before .before .before .before
+
+  abbrev bytes : List ℕ
+  bytes = p .put-step .last .1 .1 .1 .1 .0
+
+  shown : buffer bytes (p .put-step .result)
+      ≡ put (buffer (l add .loop .out) (l add .loop .at)) (resultText (answer add) (place add) (stepVector (m add .state) (step (st add .args .t1) (place add)) .bits))
+  shown = p .put-step .ensures .0 ∙ ap (put (buffer (l add .loop .out) (l add .loop .at))) (told add .1 (place add))
 
 loop-holds : tie.Need-loop-holds Inv-loop μ-loop
 loop-holds c =
@@ -87,7 +102,7 @@ loop-holds c =
       scratch-unknown-long = refl;
       out-long = refl;
       within = omega arith;
-      walked = walk-start (s .args .t1 .«step_count») (step (s .args .t1)) (entered s) (s .args .out .now) (s .pre .1);
+      walked = walk-start (s .args .t1 .«step_count») (step (s .args .t1)) (entered s) (s .args .out .now) (simp length-map at (s .good .1 .0 .1 .1 .0 .1 .0 .1)) (s .pre .1);
     }
 
 mul-step : tie.Need-mul-step Inv-loop μ-loop
@@ -96,16 +111,18 @@ mul-step c = omega (arith, c .loop-test .taken, c .before .before .before .befor
 element-copy-out-step : tie.Need-element-copy-out-step Inv-loop μ-loop
 element-copy-out-step c = omega (arith, c .loop-test .taken, c .before .before .before .before .before .before .before .pre .0 .0)
 
-cast-run-step : tie.Need-cast-run-step Inv-loop μ-loop
-cast-run-step c = omega (arith, c .before .loop-test .taken, c .before .before .before .before .before .before .before .before .pre .0 .0)
+add-step-requires : tie.Need-add-step-requires Inv-loop μ-loop
+add-step-requires c κs = search needs
 
-run-step-requires : tie.Need-run-step-requires Inv-loop μ-loop
-run-step-requires c κs =
-    let l = c .before .before .before .before .before .before .before in
-    let p = l .before .before .before .before .before .before .pre .0 in
-    let i = l .loop .inv .walked in
-    let t = c .before .before .before .before .before .before .loop-test .taken in
-    (i .thin, (omega (arith, t, p .0), omega (arith, t, p .0, p .1, i .short, i .long)))
+cast-put-step : tie.Need-cast-put-step Inv-loop μ-loop
+cast-put-step c = let a = c .before .before .before .before .before .before .before .before .before in omega (arith, inside a, st a .pre .0 .0)
+
+put-step-requires : tie.Need-put-step-requires Inv-loop μ-loop
+put-step-requires c κs =
+    let a = c .before .before .before .before .before .before .before .before .before .before .before .before in
+    let g = st a .pre .0 in
+    let i = l a .loop .inv .walked in
+    ((omega (arith, inside a, g .0), omega (arith, inside a, g .0, g .1, i .short, i .long)), told a .0)
 
 enum-told : tie.Need-enum-told Inv-loop μ-loop
 enum-told c = search needs
@@ -127,25 +144,26 @@ same-length-5 c = search needs
 
 returns : tie.Need-returns Inv-loop μ-loop
 returns c =
-    let a = c .before .before .before .before .before .before .before .before .before .before .before .before .before .before in
+    let p = c .before .before .before .before in
+    let a = add p in
     sym (walk-last (st a .args .t1 .«step_count») (step (st a .args .t1)) (entered (st a)) (st a .args .out .now) (m a) (l a .loop .out) (l a .loop .at) (l a .loop .k) (l a .loop .inv .walked) (inside a)
-    (cellAnswer (a .run-step .result .stored .answer)) (left a) (a .run-step .last .1 .1 .1 .1 .1 .1 .1 .0) (a .run-step .result .at) (called a) (shown a)
-    (refusalNumber (c .enum-told .given .0 .0)) (ap cellAnswer (c .enum-told .given .1)))
+    (answer a) (left a) (bytes p) (p .put-step .result) (called a) (shown p) (refusalNumber (c .enum-told .given .0 .0)) (ap cellAnswer (c .enum-told .given .1)))
 
 enum-told-2 : tie.Need-enum-told-2 Inv-loop μ-loop
 enum-told-2 c = search needs
 
 add-k : tie.Need-add-k Inv-loop μ-loop
-add-k c = let a = c .before .before .before .before .before .before .before .before .before .before .before .before .before .before in omega (arith, inside a, st a .pre .0 .0)
+add-k c = let a = add (c .before .before .before .before) in omega (arith, inside a, st a .pre .0 .0)
 
 loop-less : tie.Need-loop-less Inv-loop μ-loop
-loop-less c = let a = c .before .before .before .before .before .before .before .before .before .before .before .before .before .before in omega (arith, inside a)
+loop-less c = let a = add (c .before .before .before .before) in omega (arith, inside a)
 
 loop-again : tie.Need-loop-again Inv-loop μ-loop
 loop-again c =
-    let a = c .before .before .before .before .before .before .before .before .before .before .before .before .before .before in
+    let p = c .before .before .before .before in
+    let a = add p in
     let i = l a .loop .inv .walked in
-    let same : length (a .run-step .last .1 .1 .1 .1 .1 .1 .1 .0) ≡ length (l a .loop .out) = search needs in
+    let same : length (bytes p) ≡ length (l a .loop .out) = search needs in
     record {
       value-long = search needs;
       unknown-long = search needs;
@@ -154,9 +172,9 @@ loop-again c =
       out-long = same ∙ l a .loop .inv .out-long;
       within = omega (arith, inside a);
       walked =
-          walk-more (st a .args .t1 .«step_count») (step (st a .args .t1)) (entered (st a)) (st a .args .out .now) (m a) (l a .loop .out) (l a .loop .at) (l a .loop .k) (l a .loop .inv .walked) (inside a)
-          (cellAnswer (a .run-step .result .stored .answer)) (left a) (a .run-step .last .1 .1 .1 .1 .1 .1 .1 .0) (a .run-step .result .at) (called a) (shown a)
-          (c .enum-told2 .given .0 .0) (ap cellAnswer (c .enum-told2 .given .1)) (omega (arith, inside a, st a .pre .0 .0, st a .pre .0 .1, i .short, i .long)) (a .run-step .ensures .1 .1) same;
+          walk-more (st a .args .t1 .«step_count») (step (st a .args .t1)) (entered (st a)) (st a .args .out .now) (m a) (l a .loop .out) (l a .loop .at) (l a .loop .k) i (inside a)
+          (answer a) (left a) (bytes p) (p .put-step .result) (called a) (shown p) (c .enum-told2 .given .0 .0) (ap cellAnswer (c .enum-told2 .given .1))
+          (omega (arith, inside a, st a .pre .0 .0, st a .pre .0 .1, i .short, i .long)) (p .put-step .ensures .1) same;
     }
 
 cast-put-done : tie.Need-cast-put-done Inv-loop μ-loop
@@ -205,8 +223,9 @@ run-steps-spec =
     loop-holds
     mul-step
     element-copy-out-step
-    cast-run-step
-    run-step-requires
+    add-step-requires
+    cast-put-step
+    put-step-requires
     enum-told
     same-length
     same-length-2
