@@ -10,7 +10,7 @@ use lib.Dec.{eqb, ltb}
 use lib.ListN.{length, getD, drop, drop-of-length-le}
 use lib.Seq.{drop-cons, getD-take, length-take-le}
 use Rattle.refusal.specs.Outcome.{Answer, after}
-use Rattle.refusal.specs.Outcome.Answer.{given, refused}
+use Rattle.refusal.specs.Outcome.Answer.{refused}
 use Rattle.words.specs.Planes.{Planes}
 use Rattle.machine.specs.Machine.{wordsTaken}
 use Rattle.cells.specs.declared.Cell.{Cell}
@@ -64,11 +64,11 @@ module _ (a : Planes) (s : Store) (i k : ℕ) (whole : s .count ≤ length (s .c
       let w : wordsTaken (cellHeaders (drop i (filled s))) ≡ 0 = ap (λ (l : List Cell). wordsTaken (cellHeaders l)) e in
       (omega (arith, w, left .words), left .cells ∙ ap (λ (l : List Cell). cellsAgree a k l) e)
 
--- ---- how the check ends, where n is the next word
+-- ---- how the check ends, where the answer behind it is x
 
-module _ (s : State) (n : ℕ) where
+module _ (s : State) (x : Answer ℕ) where
   abbrev checked : Answer ℕ
-  checked = after (checkStore s) (given n)
+  checked = after (checkStore s) x
 
   disagrees : agrees s ≡ false → refused 14 ≡ checked
   unfolding checkStore
@@ -88,9 +88,9 @@ module _ (s : State) (n : ℕ) where
       unfolding agrees
       cell-wrong h = disagrees (simp (le-leb _ _ few, eq-eqb _ _ level, h))
 
-      pub all-right : cellsAgree (s .arenas) 0 (filled (s .store)) ≡ true → (m : ℕ) → m ≡ n → given m ≡ checked
+      pub all-right : cellsAgree (s .arenas) 0 (filled (s .store)) ≡ true → x ≡ checked
       unfolding agrees checkStore
-      all-right h m e = simp (le-leb _ _ few, eq-eqb _ _ level, h) (ap given e)
+      all-right h = simp (le-leb _ _ few, eq-eqb _ _ level, h)
 
   -- the two tests before the walk
   pub misfit : ltb 320 (s .store .count) || not (eqb (length (s .arenas .value)) (length (s .arenas .unknown))) ≡ true → refused 14 ≡ checked

@@ -1,13 +1,11 @@
-// The check of a store, the place of an input's cell, and a cell put behind the last. Most of these ask their caller for what the check has found.
+// The check of a store, and a cell put behind the last.
 use crate::PlaceAnswer;
 use crate::Store;
 use cells::Cell;
 use cells::inner::cell_agrees;
 use cells::inner::copy_front;
 use refusal::Refusal;
-use refusal::Verdict;
 use value::Header;
-use value::check_vector;
 use words::word_count;
 ghost use mathlib.Core.Path.{_≡_};
 ghost use Prim.Native.Nat.{_≤_, _<_, _+_};
@@ -16,13 +14,14 @@ ghost use Rattle.refusal.specs.Outcome.{after};
 ghost use Rattle.refusal.specs.Outcome.Answer.{given};
 ghost use Rattle.words.specs.Planes.{wordCount, lent, Plane};
 ghost use Rattle.value.specs.Checks.{vector};
-ghost use Rattle.store.specs.Store.{state, nextWord, checkStore, checkInput, placeAnswer, appended};
+ghost use Rattle.machine.specs.Machine.{checkCount};
+ghost use Rattle.store.specs.Store.{state, storeHeaders, nextWord, checkStore, placeAnswer, appended};
 
 pub mod step;
 
-// The word at which the next cell begins, if the store agrees with its arenas; else 14.
+// The word at which the next cell begins, or the refusal: 14 if the store disagrees with its arenas, then 12 if it is full.
 pub fn check_store(s: Store, value: &[u64], unknown: &[u64]) -> PlaceAnswer
-    ensures { λ r. ⌜ placeAnswer r ≡ after (checkStore (state s (lent (now (value .entry)) (now (unknown .entry))))) (given (nextWord s)) ⌝ }
+    ensures { λ r. ⌜ placeAnswer r ≡ after (checkStore (state s (lent (now (value .entry)) (now (unknown .entry))))) (after (checkCount (storeHeaders s)) (given (nextWord s))) ⌝ }
 {
     if (320 < s.count) | (value.len() != unknown.len()) {
         return PlaceAnswer::Refused(Refusal::BadStore);
@@ -38,38 +37,10 @@ pub fn check_store(s: Store, value: &[u64], unknown: &[u64]) -> PlaceAnswer
         at += word_count(h.width);
         i += 1;
     }
-    PlaceAnswer::At(at)
-}
-
-// The word at which the cell of an input begins, or its refusal: 14, 12, then 1 to 4, then 13.
-pub fn place_input(
-    s: Store,
-    h: Header,
-    value: &[u64],
-    unknown: &[u64],
-    arena_value: &[u64],
-    arena_unknown: &[u64],
-) -> PlaceAnswer
-    ensures { λ r. ⌜ placeAnswer r ≡ after (checkInput (state s (lent (now («arena_value» .entry)) (now («arena_unknown» .entry)))) h (lent (now (value .entry)) (now (unknown .entry)))) (given (nextWord s)) ⌝ }
-{
-    match check_store(s, arena_value, arena_unknown) {
-        PlaceAnswer::Refused(r) => PlaceAnswer::Refused(r),
-        PlaceAnswer::At(at) => {
-            if 320 <= s.count {
-                PlaceAnswer::Refused(Refusal::StoreFull)
-            } else {
-                match check_vector(h, value, unknown) {
-                    Verdict::Refused(r) => PlaceAnswer::Refused(r),
-                    Verdict::Accepted => {
-                        if arena_value.len() - at < word_count(h.width) {
-                            PlaceAnswer::Refused(Refusal::NoRoom)
-                        } else {
-                            PlaceAnswer::At(at)
-                        }
-                    }
-                }
-            }
-        }
+    if 320 <= s.count {
+        PlaceAnswer::Refused(Refusal::StoreFull)
+    } else {
+        PlaceAnswer::At(at)
     }
 }
 

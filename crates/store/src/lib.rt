@@ -5,8 +5,11 @@ use cells::Operands;
 use cells::inner::work_cells;
 use ops::Step;
 use refusal::Refusal;
+use refusal::Verdict;
 use value::Header;
+use value::check_vector;
 use value::plain_header;
+use words::word_count;
 ghost use mathlib.Core.Path.{_≡_};
 ghost use Rattle.refusal.specs.Outcome.{outcome};
 ghost use Rattle.words.specs.Planes.{lent};
@@ -71,18 +74,39 @@ impl Store {
     ) -> Stored
         ensures { λ r. ⌜ outcome (cellAnswer (r .answer)) (state (r .store) (lent (now («arena_value» .exit)) (now («arena_unknown» .exit)))) ≡ addInput (state self (lent (now («arena_value» .entry)) (now («arena_unknown» .entry)))) h (lent (now (value .entry)) (now (unknown .entry))) ⌝ }
     {
-        match inner::place_input(self, h, value, unknown, arena_value, arena_unknown) {
+        match inner::check_store(self, arena_value, arena_unknown) {
             PlaceAnswer::Refused(r) => Stored {
                 answer: CellAnswer::Refused(r),
                 store: self,
             },
-            PlaceAnswer::At(at) => {
-                let s = inner::append(self, at, h, value, unknown, arena_value, arena_unknown);
-                Stored {
-                    answer: CellAnswer::Added(self.count),
-                    store: s,
+            PlaceAnswer::At(at) => match check_vector(h, value, unknown) {
+                Verdict::Refused(r) => Stored {
+                    answer: CellAnswer::Refused(r),
+                    store: self,
+                },
+                Verdict::Accepted => {
+                    if arena_value.len() - at < word_count(h.width) {
+                        Stored {
+                            answer: CellAnswer::Refused(Refusal::NoRoom),
+                            store: self,
+                        }
+                    } else {
+                        let s = inner::append(
+                            self,
+                            at,
+                            h,
+                            value,
+                            unknown,
+                            arena_value,
+                            arena_unknown,
+                        );
+                        Stored {
+                            answer: CellAnswer::Added(self.count),
+                            store: s,
+                        }
+                    }
                 }
-            }
+            },
         }
     }
 

@@ -35,14 +35,11 @@ pub fn place_step(
     match check_store(s, arena_value, arena_unknown) {
         PlaceAnswer::Refused(r) => StepAnswer::Refused(r),
         PlaceAnswer::At(at) => {
-            let n = s.count;
             let t = named(step);
             let a = t.a as usize;
             let b = t.b as usize;
             let c = t.c as usize;
-            if 320 <= n {
-                StepAnswer::Refused(Refusal::StoreFull)
-            } else if (n <= a) | (n <= b) | (n <= c) {
+            if (s.count <= a) | (s.count <= b) | (s.count <= c) {
                 StepAnswer::Refused(Refusal::NoSuchCell)
             } else {
                 let o = Operands {

@@ -1,9 +1,6 @@
 -- `cells::inner::named`: by the number of operands.
-use mathlib.Core.Path.{_≡_}
-use mathlib.Core.Bool.{true, false}
 use Prim.Native.Nat.{_≤_, _<_}
 use native.Mathlib.Omega.{arith}
-use lib.Dec.{ltb}
 use Rattle.ops.specs.Ops.{operands}
 use borrow.Author.Tests.{lt-ltb, le-ltb}
 use borrow.Author.Needs.{needs}

@@ -1,46 +1,85 @@
--- `store::Store::add_input`: refused as checked, else put behind the last cell.
+-- `store::Store::add_input`: each check on the way decides; a vector that none refuses is put behind the last cell.
 use mathlib.Core.Path.{_≡_, sym, ap, ap₂, _∙_}
 use mathlib.Core.List.{List}
-use Prim.Native.Nat.{ℕ}
+use Prim.Native.Nat.{ℕ, _-_, _≤_, _<_}
 use native.Mathlib.Omega.{arith}
-use lib.ListN.{length-map}
+use borrow.Author.Tests.{lt-leb, lt-ltb, le-ltb}
+use lib.ListN.{length, length-map}
 use Rattle.refusal.specs.Refusals.{refusalNumber}
-use Rattle.refusal.specs.Outcome.{outcome}
-use Rattle.refusal.specs.Outcome.Answer.{given}
-use Rattle.words.specs.Planes.{Planes, lent}
-use Rattle.value.specs.Checks.{vector}
-use Rattle.store.specs.Store.{State, state, nextWord, appended, checkInput, placeAnswer}
-use Rattle.store.proofs.Answers.{answer-given, answer-refused}
-use Rattle.store.proofs.Agreed.{state-agrees}
+use Rattle.refusal.specs.Outcome.{Answer, Outcome, outcome, verdict, orRefuse}
+use Rattle.refusal.specs.Outcome.Answer.{given, refused}
+use Rattle.words.specs.Planes.{wordCount, Planes, lent}
+use Rattle.value.specs.Checks.{vector, checkVector}
+use Rattle.machine.specs.Machine.{checkCount}
+use Rattle.store.specs.Store.{State, state, storeHeaders, nextWord, checkStore, appended, checkInput, placeAnswer}
+use Rattle.store.proofs.Answers.{both-given, both-refused, count-few}
+use Rattle.store.proofs.Agreed.{store-accepted, state-agrees, next-within}
 use Rattle.store.proofs.Inputs.{Accepted, input-accepted, plane-whole, plane-front}
 use borrow.Author.Needs.{needs}
 use Rattle.store.proofs.Store.add_input.Statement.{statement}
 use Rattle.store.proofs.Store.add_input.Tie as tie
 
-abbrev st : tie.After-place-input → tie.Start
+abbrev st : tie.After-check-store → tie.Start
 st k = k .before .before .before .before .before .before .before
 
-abbrev all : tie.After-place-input → State
+abbrev all : tie.After-check-store → State
 all k = state (st k .args .self) (lent (st k .args .arena-value .now) (st k .args .arena-unknown .now))
 
-abbrev input : tie.After-place-input → Planes
+abbrev input : tie.After-check-store → Planes
 input k = lent (st k .args .value .now) (st k .args .unknown .now)
 
--- nothing was refused
+-- what the check answers is what the call does
+abbrev by : tie.After-check-store → Answer Unit → Outcome ℕ State
+by k x = orRefuse x (all k) (outcome (given (all k .store .count)) (appended (vector (st k .args .h) (input k)) (all k)))
+
+-- the store's check found where the next cell begins
 module _ (t : tie.After-known-told2) where
-  abbrev k : tie.After-place-input
+  abbrev k : tie.After-check-store
   k = t .before .before .before
 
-  found : (checkInput (all k) (st k .args .h) (input k) ≡ given tt) × (nextWord (st k .args .self) ≡ t .before .at .given .0 .0)
+  abbrev hs : ℕ
+  hs = length (storeHeaders (st k .args .self))
+
+  found : (checkStore (all k) ≡ given tt) × (checkCount (storeHeaders (st k .args .self)) ≡ given tt) × (nextWord (st k .args .self) ≡ t .before .at .given .0 .0)
   found =
-      answer-given (checkInput (all k) (st k .args .h) (input k)) (nextWord (st k .args .self)) (t .before .at .given .0 .0)
-      (sym (k .place-input .ensures) ∙ ap placeAnswer (t .before .at .given .1))
+      both-given (checkStore (all k)) (checkCount (storeHeaders (st k .args .self))) (nextWord (st k .args .self)) (t .before .at .given .0 .0)
+      (sym (k .check-store .ensures) ∙ ap placeAnswer (t .before .at .given .1))
 
-  accepted : Accepted (all k) (st k .args .h) (input k)
-  accepted = input-accepted (all k) (st k .args .h) (input k) (simp length-map at (st k .good .0 .1 .1 .0 .1 .0 .1)) (found .0)
+  few : hs < 320
+  few = count-few hs (found .1)
 
-place-input-requires : tie.Need-place-input-requires
-place-input-requires c κs = search needs
+  within : nextWord (st k .args .self) ≤ length (all k .arenas .value)
+  within = next-within (all k) (store-accepted (all k) (found .0))
+
+abbrev told : tie.After-word-count → tie.After-known-told2
+told w = w .before .before .before .before
+
+-- the vector is in order
+module _ (w : tie.After-word-count) where
+  abbrev begin : tie.After-check-store
+  begin = k (told w)
+
+  ordered : checkVector (st begin .args .h) (input begin) ≡ given tt
+  ordered = let v = w .before .before .before in sym (v .check-vector .ensures) ∙ ap verdict (w .before .enum-told .given .1)
+
+-- nothing was refused
+module _ (e : tie.Else1) where
+  abbrev from : tie.After-check-store
+  from = begin (e .before)
+
+  passed : checkInput (all from) (st from .args .h) (input from) ≡ given tt
+  passed =
+      let w = e .before in
+      let g = st from .args in
+      let t = told w in
+      let h : wordCount (g .h .width) ≤ length (g .arena-value .now) - nextWord (g .self) = omega (arith, found t .2, w .word-count .ensures, e .if1 .left) in
+      simp (found t .0, lt-leb _ _ (few t), ordered w, le-ltb _ _ h)
+
+  accepted : Accepted (all from) (st from .args .h) (input from)
+  accepted = input-accepted (all from) (st from .args .h) (input from) (simp length-map at (st from .good .0 .1 .1 .0 .1 .0 .1)) passed
+
+check-store-requires : tie.Need-check-store-requires
+check-store-requires c κs = search needs
 
 enum-known-r : tie.Need-enum-known-r
 enum-known-r c = search needs
@@ -48,17 +87,35 @@ enum-known-r c = search needs
 enum-known-at : tie.Need-enum-known-at
 enum-known-at c = search needs
 
+check-vector-requires : tie.Need-check-vector-requires
+check-vector-requires c κs = search needs
+
+enum-known-r-2 : tie.Need-enum-known-r-2
+enum-known-r-2 c = search needs
+
+enum-told : tie.Need-enum-told
+enum-told c = search needs
+
+sub-if1 : tie.Need-sub-if1
+sub-if1 c =
+    let t = c .before .before .before in
+    omega (arith, within t, found t .2)
+
+word-count-requires : tie.Need-word-count-requires
+word-count-requires c κs = search needs
+
 append-requires : tie.Need-append-requires
 append-requires c κs =
-    let t = c .before .before in
-    let a = accepted t in
-    let level = state-agrees (all (k t)) (a .agreed) .level in (
-      (a .few, sym (found t .1)),
+    let e = c .before .before in
+    let a = accepted e in
+    let at = found (told (e .before)) .2 in
+    let level = state-agrees (all (from e)) (a .agreed) .level in (
+      (a .few, sym at),
       (
         plane-front _ _ (a .sound .planes .value-plane),
         (
           plane-front _ _ (a .sound .planes .unknown-plane),
-          (omega (arith, a .room, found t .1), omega (arith, a .room, found t .1, level)),
+          (omega (arith, a .room, at), omega (arith, a .room, at, level)),
         ),
       ),
     )
@@ -72,8 +129,11 @@ same-length-2 c = search needs
 returns : tie.Need-returns
 returns c =
     let k = c .before .before .before in
-    let r = c .before .r .given .0 .0 in
-    simp (answer-refused (checkInput (all k) (st k .args .h) (input k)) (nextWord (st k .args .self)) (refusalNumber r) (sym (k .place-input .ensures) ∙ ap placeAnswer (c .before .r .given .1)))
+    let g = st k .args in
+    let r = refusalNumber (c .before .r .given .0 .0) in
+    let e : checkInput (all k) (g .h) (input k) ≡ refused r =
+    both-refused (checkStore (all k)) (checkCount (storeHeaders (g .self))) (nextWord (g .self)) r (sym (k .check-store .ensures) ∙ ap placeAnswer (c .before .r .given .1)) _ in
+    sym (ap (by k) e)
 
 same-length-3 : tie.Need-same-length-3
 same-length-3 c = search needs
@@ -83,27 +143,65 @@ same-length-4 c = search needs
 
 returns-2 : tie.Need-returns-2
 returns-2 c =
+    let v = c .before .before .before in
+    let t = v .before in
+    simp (found t .0, lt-leb _ _ (few t), sym (v .check-vector .ensures) ∙ ap verdict (c .before .r2 .given .1))
+
+same-length-5 : tie.Need-same-length-5
+same-length-5 c = search needs
+
+same-length-6 : tie.Need-same-length-6
+same-length-6 c = search needs
+
+returns-3 : tie.Need-returns-3
+returns-3 c =
+    let w = c .before in
+    let t = told w in
+    let g = st (k t) .args in
+    let h : length (g .arena-value .now) - nextWord (g .self) < wordCount (g .h .width) = omega (arith, found t .2, w .word-count .ensures, c .if1 .taken) in
+    simp (found t .0, lt-leb _ _ (few t), ordered w, lt-ltb _ _ h)
+
+same-length-7 : tie.Need-same-length-7
+same-length-7 c = search needs
+
+same-length-8 : tie.Need-same-length-8
+same-length-8 c = search needs
+
+returns-4 : tie.Need-returns-4
+returns-4 c =
     let a = c .before .before .before .before in
-    let t = a .before .before .before in
-    let h = st (k t) .args .h in
-    let p = accepted t .sound .planes in
-    simp (found t .0)
-    (ap (λ (s : State). outcome (given (st (k t) .args .self .count)) s)
+    let e = a .before .before .before in
+    let k = from e in
+    let h = st k .args .h in
+    let p = accepted e .sound .planes in
+    ap (λ (s : State). outcome (given (all k .store .count)) s)
     (a .append .ensures
-    ∙ ap₂ (λ (v u : List ℕ). appended (vector h (lent v u)) (all (k t)))
-    (plane-whole (h .width) (input (k t) .value) (p .value-plane)) (plane-whole (h .width) (input (k t) .unknown) (p .unknown-plane))))
+    ∙ ap₂ (λ (v u : List ℕ). appended (vector h (lent v u)) (all k))
+    (plane-whole (h .width) (input k .value) (p .value-plane)) (plane-whole (h .width) (input k .unknown) (p .unknown-plane)))
+    ∙ sym (ap (by k) (passed e))
 
 pub add-input-spec : {M : Type 1} → statement M
 add-input-spec =
     tie.close
     (tie.spec
-    place-input-requires
+    check-store-requires
     enum-known-r
     enum-known-at
+    check-vector-requires
+    enum-known-r-2
+    enum-told
+    sub-if1
+    word-count-requires
     append-requires
     same-length
     same-length-2
     returns
     same-length-3
     same-length-4
-    returns-2)
+    returns-2
+    same-length-5
+    same-length-6
+    returns-3
+    same-length-7
+    same-length-8
+    returns-4)

@@ -1,16 +1,20 @@
 -- `store::inner::check_store`: what is left of the check at cell i (`Left`).
-use mathlib.Core.Path.{_≡_, sym, _∙_}
+use mathlib.Core.Path.{_≡_, sym, ap, _∙_}
 use mathlib.Core.Bool.{Bool, true, false}
-use Prim.Native.Nat.{_+_, _-_, _≤_}
+use Prim.Native.Nat.{ℕ, _+_, _-_, _≤_, _<_}
 use native.Mathlib.Omega.{arith}
 use lib.ListN.{length, getD, length-map}
-use borrow.Author.Tests.{not-true, not-false}
+use borrow.Author.Tests.{le-leb, lt-leb, not-true, not-false}
 use borrow.Author.Needs.{needs}
+use Rattle.refusal.specs.Outcome.{Answer, after}
+use Rattle.refusal.specs.Outcome.Answer.{given, refused}
 use Rattle.words.specs.Planes.{lent}
+use Rattle.machine.specs.Machine.{checkCount}
 use Rattle.cells.specs.declared.Cell.{Cell}
-use Rattle.cells.specs.Cells.{cellAgrees}
-use Rattle.store.specs.Store.{State, state, noCell, nextWord}
+use Rattle.cells.specs.Cells.{cellAgrees, cellsAgree}
+use Rattle.store.specs.Store.{State, state, noCell, filled, storeHeaders, nextWord, checkStore}
 use Rattle.cells.proofs.Spans.{cell-fits}
+use Rattle.store.proofs.Agreed.{headers-count}
 use Rattle.store.proofs.Walk.{Left, left-start, left-more, left-wrong, left-done, cell-wrong, all-right, misfit, fit}
 use Rattle.store.proofs.inner.check_store.Statement.{statement}
 use Rattle.store.proofs.inner.check_store.Tie as tie
@@ -24,6 +28,10 @@ abbrev μ-loop : tie.MeasureT-loop
 
 abbrev all : tie.Start Inv-loop μ-loop → State
 all st = state (st .args .t1) (lent (st .args .value .now) (st .args .unknown .now))
+
+-- the answer once the cells agree
+abbrev counted : tie.Start Inv-loop μ-loop → Answer ℕ
+counted st = after (checkCount (storeHeaders (st .args .t1))) (given (nextWord (st .args .t1)))
 
 places : (st : tie.Start Inv-loop μ-loop) → length (st .args .t1 .cells) ≡ 320
 places st = simp length-map at (st .good .0 .1 .1 .0 .1 .0 .1)
@@ -46,7 +54,7 @@ module _ (a : tie.After-cell-agrees Inv-loop μ-loop) where
   told b e = sym (a .cell-agrees .ensures) ∙ e
 
 returns : tie.Need-returns Inv-loop μ-loop
-returns c = let st = c .before .before .before in misfit (all st) (nextWord (st .args .t1)) (c .if1 .taken)
+returns c = let st = c .before .before .before in misfit (all st) (counted st) (c .if1 .taken)
 
 loop-holds : tie.Need-loop-holds Inv-loop μ-loop
 loop-holds c =
@@ -67,7 +75,7 @@ returns-2 : tie.Need-returns-2 Inv-loop μ-loop
 returns-2 c =
     let a = c .before in
     let t = st a in
-    cell-wrong (all t) (nextWord (t .args .t1)) (l a .loop .inv .0) (l a .loop .inv .1)
+    cell-wrong (all t) (counted t) (l a .loop .inv .0) (l a .loop .inv .1)
     (left-wrong (all t .arenas) (t .args .t1) (l a .loop .i) (l a .loop .at) (whole a) (l a .loop .inv .4) noCell (a .before .before .loop-test .taken)
     (told a false (not-true _ (c .if2 .taken))))
 
@@ -100,14 +108,39 @@ loop-again c =
           e (l a .loop .at + c .word-count .result) (omega (arith, c .word-count .ensures)),
     )
 
+-- every cell agrees
+module _ (c : tie.After-loop Inv-loop μ-loop) where
+  abbrev m : tie.At-loop Inv-loop μ-loop
+  m = c .before
+
+  abbrev t : tie.Start Inv-loop μ-loop
+  t = m .before .before .before .before
+
+  done : (m .loop .at ≡ nextWord (t .args .t1)) × (cellsAgree (all t .arenas) 0 (filled (t .args .t1)) ≡ true)
+  done =
+      let s = t .args .t1 in
+      let h : s .count ≤ length (s .cells) = omega (arith, places t, m .loop .inv .0) in
+      left-done (all t .arenas) s (m .loop .i) (m .loop .at) h (m .loop .inv .4) (c .loop-test .left)
+
+  right : counted t ≡ after (checkStore (all t)) (counted t)
+  right = all-right (all t) (counted t) (m .loop .inv .0) (m .loop .inv .1) (done .1)
+
+  many : length (storeHeaders (t .args .t1)) ≡ t .args .t1 .count
+  many = headers-count (t .args .t1) (places t) (m .loop .inv .0)
+
 returns-3 : tie.Need-returns-3 Inv-loop μ-loop
 returns-3 c =
-    let m = c .before in
-    let t = m .before .before .before .before in
-    let s = t .args .t1 in
-    let h : s .count ≤ length (s .cells) = omega (arith, places t, m .loop .inv .0) in
-    let d = left-done (all t .arenas) s (m .loop .i) (m .loop .at) h (m .loop .inv .4) (c .loop-test .left) in
-    all-right (all t) (nextWord s) (m .loop .inv .0) (m .loop .inv .1) (d .1) (m .loop .at) (d .0)
+    let a = c .before in
+    let full : 320 ≤ length (storeHeaders (t a .args .t1)) = omega (arith, many a, c .if3 .taken) in
+    let e : refused 12 ≡ counted (t a) = simp (le-leb _ _ full) in
+    e ∙ right a
+
+returns-4 : tie.Need-returns-4 Inv-loop μ-loop
+returns-4 c =
+    let a = c .before in
+    let few : length (storeHeaders (t a .args .t1)) < 320 = omega (arith, many a, c .if3 .left) in
+    let e : given (c .before .before .loop .at) ≡ counted (t a) = simp (lt-leb _ _ few) (ap given (done a .0)) in
+    e ∙ right a
 
 pub check-store-spec : {M : Type 1} → statement M
 check-store-spec =
@@ -126,4 +159,5 @@ check-store-spec =
     add-i
     loop-less
     loop-again
-    returns-3)
+    returns-3
+    returns-4)

@@ -4,7 +4,7 @@ use mathlib.Core.Bool.{Bool, true, false, not, _||_, cond}
 use mathlib.Core.List.{List}
 use Prim.Native.Nat.{ℕ, _-_, _≤_, _<_, min}
 use native.Mathlib.Omega.{arith}
-use borrow.Author.Tests.{ltb-true, ltb-false, le-leb, lt-leb, lt-ltb, le-ltb}
+use borrow.Author.Tests.{ltb-true, ltb-false, lt-leb, lt-ltb, le-ltb}
 use lib.Dec.{leb, ltb}
 use lib.ListN.{length, getD, length-map}
 use lib.Seq.{getD-take}
@@ -15,13 +15,13 @@ use Rattle.words.specs.Planes.{wordCount, lent}
 use Rattle.value.specs.declared.Header.{Header}
 use Rattle.ops.specs.declared.Step.{Step}
 use Rattle.ops.specs.Ops.{armsRefused, opHeader}
-use Rattle.machine.specs.Machine.{headerAt, names, stepHeader, wordsTaken, checkStep}
+use Rattle.machine.specs.Machine.{headerAt, names, stepHeader, wordsTaken, checkCount, checkStep}
 use Rattle.cells.specs.declared.Operands.{Operands}
 use Rattle.cells.specs.Cells.{named}
 use Rattle.cells.proofs.Named.{Within, names-within, names-tested}
 use Rattle.store.specs.Store.{State, state, noCell, storeHeaders, nextWord, agrees, checkStore, placeAnswer}
-use Rattle.store.specs.Step.{cellNumber, namedCells}
-use Rattle.store.proofs.Answers.{answer-given, answer-refused}
+use Rattle.store.specs.Step.{cellNumber, namedCells, placed}
+use Rattle.store.proofs.Answers.{both-given, both-refused, count-few}
 use Rattle.store.proofs.Agreed.{store-accepted, state-agrees, headers-count, next-within}
 use Rattle.store.proofs.Named.{arms-named, header-named}
 use borrow.Author.Needs.{needs}
@@ -45,9 +45,9 @@ module _ (t : tie.After-known-told2) where
   abbrev k : tie.After-check-store
   k = t .before .before .before
 
-  found : (checkStore (all k) ≡ given tt) × (nextWord (st k .args .t1) ≡ t .before .at .given .0 .0)
+  found : (checkStore (all k) ≡ given tt) × (checkCount (hs k) ≡ given tt) × (nextWord (st k .args .t1) ≡ t .before .at .given .0 .0)
   found =
-      answer-given (checkStore (all k)) (nextWord (st k .args .t1)) (t .before .at .given .0 .0)
+      both-given (checkStore (all k)) (checkCount (hs k)) (nextWord (st k .args .t1)) (t .before .at .given .0 .0)
       (sym (k .check-store .ensures) ∙ ap placeAnswer (t .before .at .given .1))
 
   agreed : agrees (all k) ≡ true
@@ -56,44 +56,41 @@ module _ (t : tie.After-known-told2) where
   counted : length (hs k) ≡ st k .args .t1 .count
   counted = headers-count (st k .args .t1) (places (st k)) (state-agrees (all k) agreed .few)
 
+  -- not 12
+  few : length (hs k) < 320
+  few = count-few (length (hs k)) (found .1)
+
   within : nextWord (st k .args .t1) ≤ length (all k .arenas .value)
   within = next-within (all k) agreed
 
--- not 12
-module _ (e : tie.Else1) where
-  abbrev named-at : tie.After-named
-  named-at = e .before .before .before .before
-
+-- what the test of the names tells
+module _ (n : tie.After-named) where
   abbrev begin : tie.After-check-store
-  begin = k (named-at .before)
+  begin = k (n .before)
 
-  few : length (hs begin) < 320
-  few = omega (arith, counted (named-at .before), e .if1 .left)
-
-  -- what the test of the names tells
-  told : (b : Bool) → let n = st begin .args .t1 .count in let t = named-at .named .result in
-      leb n (t .a) || leb n (t .b) || leb n (t .c) ≡ b → names n (st begin .args .step) ≡ not b
+  told : (b : Bool) → let m = st begin .args .t1 .count in let t = n .named .result in
+      leb m (t .a) || leb m (t .b) || leb m (t .c) ≡ b → names m (st begin .args .step) ≡ not b
   told b h =
-      let n = st begin .args .t1 .count in
-      names-tested n (st begin .args .step) b (ap (λ (t : Step). leb n (t .a) || leb n (t .b) || leb n (t .c)) (sym (named-at .named .ensures)) ∙ h)
+      let m = st begin .args .t1 .count in
+      names-tested m (st begin .args .step) b (ap (λ (t : Step). leb m (t .a) || leb m (t .b) || leb m (t .c)) (sym (n .named .ensures)) ∙ h)
 
   names-all : (b : Bool) → names (st begin .args .t1 .count) (st begin .args .step) ≡ b → names (length (hs begin)) (st begin .args .step) ≡ b
-  names-all b h = ap (λ (n : ℕ). names n (st begin .args .step)) (counted (named-at .before)) ∙ h
+  names-all b h = ap (λ (m : ℕ). names m (st begin .args .step)) (counted (n .before)) ∙ h
 
 -- not 11
-module _ (e : tie.Else2) where
-  abbrev first : tie.Else1
-  first = e .before
+module _ (e : tie.Else1) where
+  abbrev first : tie.After-named
+  first = e .before .before .before .before
 
   abbrev start : tie.Start
   start = st (begin first)
 
   filled : Within (start .args .t1 .count) (start .args .step)
-  filled = names-within (start .args .t1 .count) (start .args .step) (told first false (e .if2 .left))
+  filled = names-within (start .args .t1 .count) (start .args .step) (told first false (e .if1 .left))
 
   -- each number of the step that is read
-  number : (f : Step → ℕ) → f (named-at first .named .result) ≡ f (named (start .args .step))
-  number f = ap f (named-at first .named .ensures)
+  number : (f : Step → ℕ) → f (first .named .result) ≡ f (named (start .args .step))
+  number f = ap f (first .named .ensures)
 
   read : (i j : ℕ) → i ≡ j → j < start .args .t1 .count → getD (start .args .t1 .cells) i noCell ≡ cellNumber (start .args .t1) j
   read i j e h =
@@ -103,12 +100,12 @@ module _ (e : tie.Else2) where
   -- the cells that were read
   abbrev cells : Operands
   cells =
-      let t = named-at first .named .result in
+      let t = first .named .result in
       record { a = getD (start .args .t1 .cells) (t .a) noCell; b = getD (start .args .t1 .cells) (t .b) noCell; c = getD (start .args .t1 .cells) (t .c) noCell }
 
   cells-named : cells ≡ namedCells (start .args .t1) (start .args .step)
   cells-named =
-      let r = named-at first .named .result in
+      let r = first .named .result in
       let t = named (start .args .step) in
       λ i. record {
         a = read (r .a) (t .a) (number (λ (t : Step). t .a)) (filled .a) i;
@@ -118,7 +115,7 @@ module _ (e : tie.Else2) where
 
 -- ---- the result
 
-abbrev second : tie.After-arms-refused → tie.Else2
+abbrev second : tie.After-arms-refused → tie.Else1
 second a = a .before .before .before .before .before .before
 
 module _ (a : tie.After-arms-refused) where
@@ -146,7 +143,7 @@ module _ (a : tie.After-arms-refused) where
       ∙ sym (a .arms-refused .ensures) ∙ e
 
   named-all : names (length headers) (from .args .step) ≡ true
-  named-all = names-all (first (second a)) true (told (first (second a)) false (second a .if2 .left))
+  named-all = names-all (first (second a)) true (told (first (second a)) false (second a .if1 .left))
 
 -- the three tests of the room are the two of the machine
 room : (d w v u : ℕ) → _≡_ {A = Answer Unit} (after (cond (ltb d w) (refused 13) (given tt)) (cond (ltb (min v u) w) (refused 13) (given tt)))
@@ -161,7 +158,7 @@ room d w v u = go (ltb d w) (ltb v w) refl (ltb u w) refl
     go false false ey false ez = let h : w ≤ min v u = omega (arith, ltb-false v w ey, ltb-false u w ez) in simp (le-ltb (min v u) w h)
 
 -- what the last test decides
-module _ (e : tie.Else3) (b : Bool) where
+module _ (e : tie.Else2) (b : Bool) where
   abbrev a : tie.After-arms-refused
   a = e .before
 
@@ -169,7 +166,7 @@ module _ (e : tie.Else3) (b : Bool) where
   g = from a
 
   abbrev place : tie.After-known-told2
-  place = named-at (first (second a)) .before
+  place = first (second a) .before
 
   decided : let w = a .before .word-count .result in
       ltb (length (g .args .arena-value .now) - place .before .at .given .0 .0) w || ltb (g .args .value) w || ltb (g .args .unknown) w ≡ b
@@ -179,9 +176,9 @@ module _ (e : tie.Else3) (b : Bool) where
   decided h =
       let n = length (g .args .arena-value .now) in
       let w = wordCount (stepHeader (headers a) (g .args .step) .width) in
-      simp (lt-leb _ _ (few (first (second a))), named-all a, arms a false (e .if3 .left))
+      simp (lt-leb _ _ (few place), named-all a, arms a false (e .if2 .left))
       (room (n - wordsTaken (headers a)) w (g .args .value) (g .args .unknown)
-      ∙ (λ i. cond (ltb (n - found place .1 i) (sym (words a) i) || ltb (g .args .value) (sym (words a) i) || ltb (g .args .unknown) (sym (words a) i)) (refused 13) (given tt))
+      ∙ (λ i. cond (ltb (n - found place .2 i) (sym (words a) i) || ltb (g .args .value) (sym (words a) i) || ltb (g .args .unknown) (sym (words a) i)) (refused 13) (given tt))
       ∙ ap (λ (t : Bool). cond t (refused 13) (given tt)) h)
 
 check-store-requires : tie.Need-check-store-requires
@@ -205,23 +202,31 @@ cast-b c = search needs
 cast-c : tie.Need-cast-c
 cast-c c = search needs
 
-mul-t32 : tie.Need-mul-t32
-mul-t32 c = search needs
+mul-t31 : tie.Need-mul-t31
+mul-t31 c = search needs
 
-element-copy-out-t35 : tie.Need-element-copy-out-t35
-element-copy-out-t35 c = omega (arith, filled c .a, number c (λ (t : Step). t .a), first c .if1 .left)
+element-copy-out-t34 : tie.Need-element-copy-out-t34
+element-copy-out-t34 c =
+    let n = first c .before in
+    omega (arith, filled c .a, number c (λ (t : Step). t .a), counted n, few n)
 
-mul-t36 : tie.Need-mul-t36
-mul-t36 c = search needs
+mul-t35 : tie.Need-mul-t35
+mul-t35 c = search needs
 
-element-copy-out-t39 : tie.Need-element-copy-out-t39
-element-copy-out-t39 c = let e = c .before in omega (arith, filled e .b, number e (λ (t : Step). t .b), first e .if1 .left)
+element-copy-out-t38 : tie.Need-element-copy-out-t38
+element-copy-out-t38 c =
+    let e = c .before in
+    let n = first e .before in
+    omega (arith, filled e .b, number e (λ (t : Step). t .b), counted n, few n)
 
-mul-t40 : tie.Need-mul-t40
-mul-t40 c = search needs
+mul-t39 : tie.Need-mul-t39
+mul-t39 c = search needs
 
-element-copy-out-t43 : tie.Need-element-copy-out-t43
-element-copy-out-t43 c = let e = c .before .before in omega (arith, filled e .c, number e (λ (t : Step). t .c), first e .if1 .left)
+element-copy-out-t42 : tie.Need-element-copy-out-t42
+element-copy-out-t42 c =
+    let e = c .before .before in
+    let n = first e .before in
+    omega (arith, filled e .c, number e (λ (t : Step). t .c), counted n, few n)
 
 result-header-requires : tie.Need-result-header-requires
 result-header-requires c κs = search needs
@@ -232,46 +237,43 @@ word-count-requires c κs = search needs
 arms-refused-requires : tie.Need-arms-refused-requires
 arms-refused-requires c κs = search needs
 
-sub-if4 : tie.Need-sub-if4
-sub-if4 c =
-    let t = named-at (first (second (c .before))) .before in
-    omega (arith, within t, found t .1)
+sub-if3 : tie.Need-sub-if3
+sub-if3 c =
+    let t = place c false in
+    omega (arith, within t, found t .2)
 
 returns : tie.Need-returns
+unfolding checkStep
 returns c =
     let k = c .before .before .before in
-    let r = c .before .r .given .0 .0 in
-    simp (answer-refused (checkStore (all k)) (nextWord (st k .args .t1)) (refusalNumber r) (sym (k .check-store .ensures) ∙ ap placeAnswer (c .before .r .given .1)))
+    let g = st k .args in
+    let r = refusalNumber (c .before .r .given .0 .0) in
+    let e : after (checkStore (all k)) (checkStep (record { arena = length (g .arena-value .now); scratch = min (g .value) (g .unknown) }) (hs k) (g .step)) ≡ refused r =
+    both-refused (checkStore (all k)) (checkCount (hs k)) (nextWord (g .t1)) r (sym (k .check-store .ensures) ∙ ap placeAnswer (c .before .r .given .1)) _ in
+    sym (ap (λ (x : Answer Unit). after x (given (placed (g .t1) (g .step)))) e)
 
 returns-2 : tie.Need-returns-2
 unfolding checkStep
 returns-2 c =
-    let t = c .before .before .before .before .before in
-    let full : 320 ≤ length (hs (k t)) = omega (arith, counted t, c .if1 .taken) in
-    simp (found t .0, le-leb _ _ full)
+    let n = c .before .before .before .before in
+    simp (found (n .before) .0, lt-leb _ _ (few (n .before)), names-all n false (told n true (c .if1 .taken)))
 
 returns-3 : tie.Need-returns-3
 unfolding checkStep
 returns-3 c =
-    let e = c .before in
-    simp (found (named-at e .before) .0, lt-leb _ _ (few e), names-all e false (told e true (c .if2 .taken)))
+    let a = c .before in
+    let t = first (second a) .before in
+    simp (found t .0, lt-leb _ _ (few t), named-all a, arms a true (c .if2 .taken))
 
 returns-4 : tie.Need-returns-4
-unfolding checkStep
-returns-4 c =
-    let a = c .before in
-    let e = first (second a) in
-    simp (found (named-at e .before) .0, lt-leb _ _ (few e), named-all a, arms a true (c .if3 .taken))
+returns-4 c = let e = c .before in simp (found (place e true) .0, decided e true (c .if3 .taken))
 
 returns-5 : tie.Need-returns-5
-returns-5 c = let e = c .before in simp (found (place e true) .0, decided e true (c .if4 .taken))
-
-returns-6 : tie.Need-returns-6
-returns-6 c =
+returns-5 c =
     let e = c .before in
     let t = place e false in
-    simp (found t .0, decided e false (c .if4 .left))
-    (λ i. given (record { start = sym (found t .1) i; operands = cells-named (second (e .before)) i; header = header (e .before) i }))
+    simp (found t .0, decided e false (c .if3 .left))
+    (λ i. given (record { start = sym (found t .2) i; operands = cells-named (second (e .before)) i; header = header (e .before) i }))
 
 pub place-step-spec : {M : Type 1} → statement M
 place-step-spec =
@@ -284,19 +286,18 @@ place-step-spec =
     cast-a
     cast-b
     cast-c
-    mul-t32
-    element-copy-out-t35
-    mul-t36
-    element-copy-out-t39
-    mul-t40
-    element-copy-out-t43
+    mul-t31
+    element-copy-out-t34
+    mul-t35
+    element-copy-out-t38
+    mul-t39
+    element-copy-out-t42
     result-header-requires
     word-count-requires
     arms-refused-requires
-    sub-if4
+    sub-if3
     returns
     returns-2
     returns-3
     returns-4
-    returns-5
-    returns-6)
+    returns-5)
