@@ -9,7 +9,6 @@ use store::Store;
 use store::Stored;
 use words::word_count;
 ghost use mathlib.Core.Path.{_≡_};
-ghost use Prim.Native.Nat.{_<_};
 ghost use Rattle.refusal.specs.Outcome.{outcome, verdict};
 ghost use Rattle.words.specs.Planes.{lent};
 ghost use Rattle.store.specs.Store.{state, emptyStore, cellAnswer};
@@ -47,10 +46,9 @@ pub fn add_inputs(
     ensures { λ r. ⌜ outcome (verdict (r .verdict)) (state (r .store) (lent (now («arena_value» .exit)) (now («arena_unknown» .exit)))) ≡ addInputs (state emptyStore (lent (now («arena_value» .entry)) (now («arena_unknown» .entry)))) (listIn (now (text .entry)) list .inputs) ⌝ }
     ensures { λ r. ⌜ AllThin (r .store) ⌝ }
 {
-    let n = list.input_count;
     let mut s = Store::new();
     let mut i = 0;
-    while i < n {
+    while i < list.input_count {
         let x = list.inputs[i];
         let t = add_listed(s, x, text, arena_value, arena_unknown);
         s = t.store;

@@ -30,11 +30,10 @@ pub fn run_steps(
     requires { ⌜ AllThin from ⌝ }
     ensures { λ r. ⌜ final (memory (state (r .store) (lent (now («arena_value» .exit)) (now («arena_unknown» .exit)))) (lent (now («scratch_value» .exit)) (now («scratch_unknown» .exit)))) (buffer (now (out .exit)) (r .length)) ≡ finalOf (runSteps (memory (state from (lent (now («arena_value» .entry)) (now («arena_unknown» .entry)))) (lent (now («scratch_value» .entry)) (now («scratch_unknown» .entry)))) 0 (stepsIn (list .«step_count») (list .steps))) (buffer (now (out .entry)) 0) ⌝ }
 {
-    let n = list.step_count;
     let mut s = from;
     let mut at = 0;
     let mut k = 0;
-    while k < n {
+    while k < list.step_count {
         let step = list.steps[k];
         let t = s.add_step(
             step,
@@ -44,8 +43,8 @@ pub fn run_steps(
             scratch_unknown,
         );
         s = t.store;
-        at = put_step(t, k as u32, scratch_value, scratch_unknown, out, at);
         let answer = t.answer;
+        at = put_step(answer, s, k as u32, scratch_value, scratch_unknown, out, at);
         match answer {
             CellAnswer::Refused(_) => {
                 return RunAnswer {
@@ -57,7 +56,7 @@ pub fn run_steps(
         }
         k += 1;
     }
-    let e = put_done(out, at, n as u32);
+    let e = put_done(out, at, list.step_count as u32);
     RunAnswer {
         store: s,
         length: e,

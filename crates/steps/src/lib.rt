@@ -31,7 +31,6 @@ pub fn run(
     ensures { λ r. ⌜ final (memory (state (r .store) (lent (now («arena_value» .exit)) (now («arena_unknown» .exit)))) (lent (now («scratch_value» .exit)) (now («scratch_unknown» .exit)))) (buffer (now (out .exit)) (r .length)) ≡ finalOf (runText (lent (now («arena_value» .entry)) (now («arena_unknown» .entry))) (lent (now («scratch_value» .entry)) (now («scratch_unknown» .entry))) (now (text .entry))) (buffer (now (out .entry)) 0) ⌝ }
 {
     let a = read_list(text);
-    let list = a.list;
     let verdict = a.verdict;
     match verdict {
         Verdict::Refused(r) => {
@@ -42,7 +41,7 @@ pub fn run(
             }
         }
         Verdict::Accepted => {
-            let fed = add_inputs(list, text, arena_value, arena_unknown);
+            let fed = add_inputs(a.list, text, arena_value, arena_unknown);
             let s = fed.store;
             let fed_verdict = fed.verdict;
             match fed_verdict {
@@ -54,7 +53,7 @@ pub fn run(
                     }
                 }
                 Verdict::Accepted => inner::run_steps(
-                    list,
+                    a.list,
                     s,
                     arena_value,
                     arena_unknown,

@@ -2,7 +2,7 @@
 use output::inner::put_cell;
 use output::inner::put_refused;
 use store::CellAnswer;
-use store::Stored;
+use store::Store;
 use words::word_count;
 ghost use mathlib.Core.Path.{_≡_};
 ghost use Prim.Native.Nat.{_+_, _≤_, _<_};
@@ -14,7 +14,8 @@ ghost use Rattle.turn.specs.Turn.{resultText, Showable, shownBits};
 
 // Writes the two lines of a step behind k others: its refusal, or the cell that it added, whose bits stand at the front of the scratch planes.
 pub fn put_step(
-    t: Stored,
+    answer: CellAnswer,
+    s: Store,
     k: u32,
     scratch_value: &[u64],
     scratch_unknown: &[u64],
@@ -22,18 +23,16 @@ pub fn put_step(
     at: usize,
 ) -> usize
     requires { ⌜ (k < 256) × (at + 4111 ≤ length (now out)) ⌝ }
-    requires { ⌜ Showable (cellAnswer (t .answer)) (t .store) (lent (now «scratch_value») (now «scratch_unknown»)) ⌝ }
-    ensures { λ e. ⌜ buffer (now (out .exit)) e ≡ put (buffer (now (out .entry)) at) (resultText (cellAnswer (t .answer)) k (shownBits (cellAnswer (t .answer)) (t .store) (lent (now («scratch_value» .entry)) (now («scratch_unknown» .entry))))) ⌝ }
+    requires { ⌜ Showable (cellAnswer answer) s (lent (now «scratch_value») (now «scratch_unknown»)) ⌝ }
+    ensures { λ e. ⌜ buffer (now (out .exit)) e ≡ put (buffer (now (out .entry)) at) (resultText (cellAnswer answer) k (shownBits (cellAnswer answer) s (lent (now («scratch_value» .entry)) (now («scratch_unknown» .entry))))) ⌝ }
     ensures { λ e. ⌜ e ≤ at + 4111 ⌝ }
 {
-    let answer = t.answer;
     match answer {
         CellAnswer::Refused(r) => {
             let n = refusal::number(r) as u32;
             put_refused(out, at, n, k + 1)
         }
         CellAnswer::Added(c) => {
-            let s = t.store;
             let cell = s.cells[c];
             let h = cell.header;
             let n = word_count(h.width);

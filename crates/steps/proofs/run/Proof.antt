@@ -49,7 +49,7 @@ module _ (k : tie.After-read-list) where
 -- a list was read
 module _ (a : tie.After-enum-told) where
   abbrev read : tie.After-read-list
-  read = a .before .before .before
+  read = a .before .before
 
   abbrev list : StepList
   list = listIn (text read) (read .read-list .result .list)
@@ -133,7 +133,7 @@ returns : tie.Need-returns
 returns c =
     let n = c .before .before .before in
     let v = n .before .before in
-    let k = v .before .before .before in
+    let k = v .before .before in
     let r = v .verdict .given in
     ap₂ (λ s o. final (memory (state s (arenas k)) (scratch k)) o) (c .before .before .new .ensures)
     (c .put-refused .ensures ∙ ap (λ i. put (out k) (refusedText i 0)) (n .number .ensures))

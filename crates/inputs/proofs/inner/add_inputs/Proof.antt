@@ -1,4 +1,4 @@
--- `steps::inner::add_inputs`: what is left to do is the inputs from the i-th on.
+-- `inputs::inner::add_inputs`: what is left to do is the inputs from the i-th on.
 use mathlib.Core.Path.{_≡_, refl, sym, ap, _∙_}
 use mathlib.Core.List.{List}
 use Prim.Native.Nat.{ℕ, _-_, _≤_, _<_}
@@ -25,18 +25,18 @@ use Rattle.inputs.proofs.inner.add_inputs.Tie as tie
 abbrev input : List ℕ → StepList → ℕ → Vector
 input t l i = inputIn t (getD (l .inputs) i noInput)
 
-record Inv (t av₀ au₀ : List ℕ) (l : StepList) (n : ℕ) (av au : List ℕ) (s : Store) (i : ℕ) : Type 0 where
+record Inv (t av₀ au₀ : List ℕ) (l : StepList) (av au : List ℕ) (s : Store) (i : ℕ) : Type 0 where
   value-long : length av ≡ length av₀
   unknown-long : length au ≡ length au₀
-  within : i ≤ n
-  fed : Fed (state emptyStore (lent av₀ au₀)) n (input t l) (state s (lent av au)) i
+  within : i ≤ l .«input_count»
+  fed : Fed (state emptyStore (lent av₀ au₀)) (l .«input_count») (input t l) (state s (lent av au)) i
 
 abbrev Inv-loop : tie.InvT-loop
-Inv-loop text arena-value₀ arena-unknown₀ list n s₀ i₀ arena-value arena-unknown s i =
-    Inv text arena-value₀ arena-unknown₀ list n arena-value arena-unknown s i
+Inv-loop text arena-value₀ arena-unknown₀ list s₀ i₀ arena-value arena-unknown s i =
+    Inv text arena-value₀ arena-unknown₀ list arena-value arena-unknown s i
 
 abbrev μ-loop : tie.MeasureT-loop
-μ-loop text arena-value₀ arena-unknown₀ list n s₀ i₀ arena-value arena-unknown s i = n - i
+μ-loop text arena-value₀ arena-unknown₀ list s₀ i₀ arena-value arena-unknown s i = list .«input_count» - i
 
 -- in a turn, once the input is added
 module _ (a : tie.After-add-listed Inv-loop μ-loop) where

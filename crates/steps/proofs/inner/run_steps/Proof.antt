@@ -29,21 +29,21 @@ held s av au sv su = memory (state s (lent av au)) (lent sv su)
 abbrev step : StepList → ℕ → Step
 step l k = getD (l .steps) k noStep
 
-record Inv (av₀ au₀ sv₀ su₀ out₀ : List ℕ) (l : StepList) (n : ℕ) (s₀ : Store) (av au sv su out : List ℕ) (s : Store) (at k : ℕ) : Type 0 where
+record Inv (av₀ au₀ sv₀ su₀ out₀ : List ℕ) (l : StepList) (s₀ : Store) (av au sv su out : List ℕ) (s : Store) (at k : ℕ) : Type 0 where
   value-long : length av ≡ length av₀
   unknown-long : length au ≡ length au₀
   scratch-value-long : length sv ≡ length sv₀
   scratch-unknown-long : length su ≡ length su₀
   out-long : length out ≡ length out₀
-  within : k ≤ n
-  walked : Walked (held s₀ av₀ au₀ sv₀ su₀) out₀ n (step l) (held s av au sv su) out at k
+  within : k ≤ l .«step_count»
+  walked : Walked (held s₀ av₀ au₀ sv₀ su₀) out₀ (l .«step_count») (step l) (held s av au sv su) out at k
 
 abbrev Inv-loop : tie.InvT-loop
-Inv-loop arena-value₀ arena-unknown₀ scratch-value₀ scratch-unknown₀ out₀ list n s₀ at₀ k₀ arena-value arena-unknown scratch-value scratch-unknown out s at k =
-    Inv arena-value₀ arena-unknown₀ scratch-value₀ scratch-unknown₀ out₀ list n s₀ arena-value arena-unknown scratch-value scratch-unknown out s at k
+Inv-loop arena-value₀ arena-unknown₀ scratch-value₀ scratch-unknown₀ out₀ list s₀ at₀ k₀ arena-value arena-unknown scratch-value scratch-unknown out s at k =
+    Inv arena-value₀ arena-unknown₀ scratch-value₀ scratch-unknown₀ out₀ list s₀ arena-value arena-unknown scratch-value scratch-unknown out s at k
 
 abbrev μ-loop : tie.MeasureT-loop
-μ-loop arena-value₀ arena-unknown₀ scratch-value₀ scratch-unknown₀ out₀ list n s₀ at₀ k₀ arena-value arena-unknown scratch-value scratch-unknown out s at k = n - k
+μ-loop arena-value₀ arena-unknown₀ scratch-value₀ scratch-unknown₀ out₀ list s₀ at₀ k₀ arena-value arena-unknown scratch-value scratch-unknown out s at k = list .«step_count» - k
 
 abbrev entered : tie.Start Inv-loop μ-loop → Memory
 entered s = let a = s .args in held (a .from) (a .arena-value .now) (a .arena-unknown .now) (a .scratch-value .now) (a .scratch-unknown .now)
@@ -86,7 +86,7 @@ module _ (p : tie.After-put-step Inv-loop μ-loop) where
   add = p .before .before .before .before .before .before .before .before .before .before .before .before .before
 
   abbrev bytes : List ℕ
-  bytes = p .put-step .last .1 .1 .1 .1 .0
+  bytes = p .put-step .last .1 .1 .1 .1 .1 .0
 
   shown : buffer bytes (p .put-step .result)
       ≡ put (buffer (l add .loop .out) (l add .loop .at)) (resultText (answer add) (place add) (stepVector (m add .state) (step (st add .args .t1) (place add)) .bits))

@@ -28,7 +28,7 @@ scratch s = lent (s .args .scratch-value .now) (s .args .scratch-unknown .now)
 abbrev behind : tie.Start → CellAnswer → Buffer
 behind s x =
     let a = s .args in
-    put (buffer (a .out .now) (a .at)) (resultText (cellAnswer x) (a .k) (shownBits (cellAnswer x) (a .t .store) (scratch s)))
+    put (buffer (a .out .now) (a .at)) (resultText (cellAnswer x) (a .k) (shownBits (cellAnswer x) (a .t2) (scratch s)))
 
 -- where a cell was added
 module _ (k : tie.After-known-told2) where
@@ -39,13 +39,13 @@ module _ (k : tie.After-known-told2) where
   number = k .before .answer2 .given .0 .0
 
   abbrev header : Header
-  header = getD (start .args .t .store .cells) number noCell .header
+  header = getD (start .args .t2 .cells) number noCell .header
 
   shown : (number < 320) × Front header (scratch start)
-  shown = subst (λ (x : CellAnswer). Showable (cellAnswer x) (start .args .t .store) (scratch start)) (k .before .answer2 .given .1) (start .pre .1)
+  shown = subst (λ (x : CellAnswer). Showable (cellAnswer x) (start .args .t2) (scratch start)) (k .before .answer2 .given .1) (start .pre .1)
 
 abbrev told : tie.After-word-count → tie.After-known-told2
-told w = w .before .before .before .before
+told w = w .before .before .before
 
 size : (w : tie.After-word-count) → w .word-count .result ≡ wordCount (header (told w) .width)
 size w = w .word-count .ensures
@@ -72,10 +72,10 @@ enum-known-answer-2 : tie.Need-enum-known-answer-2
 enum-known-answer-2 c = search needs
 
 mul-cell : tie.Need-mul-cell
-mul-cell c = omega (arith, shown (c .before) .0)
+mul-cell c = omega (arith, shown c .0)
 
 element-copy-out-cell : tie.Need-element-copy-out-cell
-element-copy-out-cell c = shown (c .before) .0
+element-copy-out-cell c = shown c .0
 
 word-count-requires : tie.Need-word-count-requires
 word-count-requires c κs = search needs
