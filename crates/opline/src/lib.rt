@@ -3,7 +3,7 @@ use ops::Family;
 use ops::Op;
 ghost use mathlib.Core.Path.{_≡_};
 ghost use lib.ListN.{drop};
-ghost use Rattle.opline.specs.OpLine.{opLine, uses as usesOf, largest as largestOf};
+ghost use Rattle.opline.specs.OpLine.{opLine, largest as largestOf};
 ghost use Rattle.opline.specs.Answers.{opIn};
 
 pub mod inner;
@@ -29,22 +29,16 @@ pub fn op_line(s: &[u8], at: usize) -> OpRead
     }
 }
 
-// How many of a, b and c an op uses.
-pub fn uses(op: Op) -> usize
-    ensures { λ r. ⌜ r ≡ usesOf op ⌝ }
+// The largest number that the i-th of a, b and c may be, from 0: an unused one is 0.
+pub fn largest(op: Op, i: usize) -> u32
+    ensures { λ r. ⌜ r ≡ largestOf op i ⌝ }
 {
-    match ops::family_of(op) {
+    let used = match ops::family_of(op) {
         Family::Join(_) => 2,
         Family::Not => 1,
         Family::Answer(_) => ops::operand_count(op),
         Family::Select => 3,
         Family::Insert => 3,
-    }
-}
-
-// The largest number that the i-th of a, b and c may be, from 0: an unused one is 0.
-pub fn largest(op: Op, i: usize) -> u32
-    ensures { λ r. ⌜ r ≡ largestOf op i ⌝ }
-{
-    if i < uses(op) { 4294967295 } else { 0 }
+    };
+    if i < used { 4294967295 } else { 0 }
 }
