@@ -1,5 +1,5 @@
 -- The lowest place of a word, the two words of one bit, and the first word of a vector.
---     lane-bit, lane-one           a rule at the lowest place of two words, and of one
+--     lane-bit                     a rule at the lowest place of two words
 --     value-word, unknown-word     the two words of a vector of one bit
 --     first-word                   the lowest 64 bits of a vector are its word 0
 use mathlib.Core.Path.{_≡_, refl, sym, ap, _∙_}
@@ -15,15 +15,11 @@ use Rattle.words.specs.Planes.{valueDigit, unknownDigit, wordOf, wordAt, packed
 use Rattle.words.proofs.Digits.{bit-zero, bit-lt}
 use Rattle.words.proofs.Planes.{value-digit-stored, unknown-digit-stored}
 use Rattle.bits.proofs.Splice.{packed-bit}
-use Rattle.lanes.specs.Lanes.{laneWord, laneOne}
+use Rattle.lanes.specs.Lanes.{laneWord}
 
 pub lane-bit : (f : LogicBit → LogicBit → LogicBit) (a b : Word) → bitOf (laneWord f a b) 0 ≡ f (bitOf a 0) (bitOf b 0)
 unfolding laneWord
 lane-bit f a b = packed-bit (λ j. f (bitOf a j) (bitOf b j)) 0 (omega arith)
-
-pub lane-one : (f : LogicBit → LogicBit) (a : Word) → bitOf (laneOne f a) 0 ≡ f (bitOf a 0)
-unfolding laneOne
-lane-one f a = packed-bit (λ j. f (bitOf a j)) 0 (omega arith)
 
 one-value : (b : LogicBit) → valueDigit b ≡ wordOf valueDigit (at (b ∷ [])) 0
 unfolding pack

@@ -1,13 +1,13 @@
 // The ops worked out, into planes lent for the result. These ask their caller for accepted operands and for planes of the result's word count.
 use bit::LogicBit;
 use fold::Truth;
+use fold::inner::and_bits;
 use fold::inner::contains;
 use fold::inner::xor_bits;
 use join::inner::join_planes;
 use join::inner::not_planes;
 use lanes::Bitwise;
 use lanes::lanes;
-use lanes::not_word;
 use ops::Family;
 use ops::Op;
 use ops::Question;
@@ -64,7 +64,7 @@ fn answer(q: Question, a: Header, av: &[u64], au: &[u64], b: Header, bv: &[u64],
     ensures { λ r. ⌜ bitOf r 0 ≡ answerBit q (vector a (lent (now (av .entry)) (now (au .entry)))) (vector b (lent (now (bv .entry)) (now (bu .entry)))) ⌝ }
 {
     match q {
-        Question::ReduceAnd => not_word(truth_word(contains(a.width, av, au, false))),
+        Question::ReduceAnd => filled(and_bits(a.width, av, au)),
         Question::ReduceOr => truth_word(contains(a.width, av, au, true)),
         Question::ReduceXor => filled(xor_bits(a.width, av, au)),
         Question::Compare(op) => filled(compare(op, a, av, au, b, bv, bu)),

@@ -2,16 +2,16 @@
 use mathlib.Core.Path.{_≡_, sym, ap, ap₂, _∙_}
 use native.Mathlib.Omega.{arith}
 use Rattle.bit.specs.declared.LogicBit.{LogicBit}
-use Rattle.bit.specs.Rules.{andBit, orBit, notBit}
+use Rattle.bit.specs.Rules.{andBit, orBit}
 use Rattle.words.specs.declared.Word.{Word}
 use Rattle.words.specs.Planes.{fromPlanes, packed, bitOf, lent}
 use Rattle.bits.proofs.Splice.{packed-bit}
 use Rattle.value.specs.Checks.{vector}
 use Rattle.fold.specs.Fold.{truthBit}
-use Rattle.fold.proofs.Folds.{truth-or, contains-and}
+use Rattle.fold.proofs.Folds.{truth-or}
 use Rattle.ops.specs.declared.Question.{Question}
 use Rattle.ops.specs.Ops.{answerBit}
-use Rattle.work.proofs.Words.{lane-bit, lane-one}
+use Rattle.work.proofs.Words.{lane-bit}
 use borrow.Author.Needs.{needs}
 use Rattle.work.proofs.inner.answer.Statement.{statement}
 use Rattle.work.proofs.inner.answer.Tie as tie
@@ -35,23 +35,20 @@ everywhere {b = b} e = low e ∙ packed-bit (λ j. b) 0 (omega arith)
 enum-told : tie.Need-enum-told
 enum-told c = search needs
 
+and-bits-requires : tie.Need-and-bits-requires
+and-bits-requires c κs = search needs
+
+filled-requires : tie.Need-filled-requires
+filled-requires c κs = search needs
+
+enum-told-2 : tie.Need-enum-told-2
+enum-told-2 c = search needs
+
 contains-requires : tie.Need-contains-requires
 contains-requires c κs = search needs
 
 truth-word-requires : tie.Need-truth-word-requires
 truth-word-requires c κs = search needs
-
-not-word-requires : tie.Need-not-word-requires
-not-word-requires c κs = search needs
-
-enum-told-2 : tie.Need-enum-told-2
-enum-told-2 c = search needs
-
-contains-requires-2 : tie.Need-contains-requires-2
-contains-requires-2 c κs = search needs
-
-truth-word-requires-2 : tie.Need-truth-word-requires-2
-truth-word-requires-2 c κs = search needs
 
 enum-told-3 : tie.Need-enum-told-3
 enum-told-3 c = search needs
@@ -59,8 +56,8 @@ enum-told-3 c = search needs
 xor-bits-requires : tie.Need-xor-bits-requires
 xor-bits-requires c κs = search needs
 
-filled-requires : tie.Need-filled-requires
-filled-requires c κs = search needs
+filled-requires-2 : tie.Need-filled-requires-2
+filled-requires-2 c κs = search needs
 
 enum-known-q : tie.Need-enum-known-q
 enum-known-q c = search needs
@@ -68,11 +65,17 @@ enum-known-q c = search needs
 compare-requires : tie.Need-compare-requires
 compare-requires c κs = search needs
 
-filled-requires-2 : tie.Need-filled-requires-2
-filled-requires-2 c κs = search needs
+filled-requires-3 : tie.Need-filled-requires-3
+filled-requires-3 c κs = search needs
 
 enum-told-4 : tie.Need-enum-told-4
 enum-told-4 c = search needs
+
+contains-requires-2 : tie.Need-contains-requires-2
+contains-requires-2 c κs = search needs
+
+truth-word-requires-2 : tie.Need-truth-word-requires-2
+truth-word-requires-2 c κs = search needs
 
 contains-requires-3 : tie.Need-contains-requires-3
 contains-requires-3 c κs = search needs
@@ -80,17 +83,17 @@ contains-requires-3 c κs = search needs
 truth-word-requires-3 : tie.Need-truth-word-requires-3
 truth-word-requires-3 c κs = search needs
 
-contains-requires-4 : tie.Need-contains-requires-4
-contains-requires-4 c κs = search needs
-
-truth-word-requires-4 : tie.Need-truth-word-requires-4
-truth-word-requires-4 c κs = search needs
-
 lanes-requires : tie.Need-lanes-requires
 lanes-requires c κs = search needs
 
 enum-told-5 : tie.Need-enum-told-5
 enum-told-5 c = search needs
+
+contains-requires-4 : tie.Need-contains-requires-4
+contains-requires-4 c κs = search needs
+
+truth-word-requires-4 : tie.Need-truth-word-requires-4
+truth-word-requires-4 c κs = search needs
 
 contains-requires-5 : tie.Need-contains-requires-5
 contains-requires-5 c κs = search needs
@@ -98,54 +101,41 @@ contains-requires-5 c κs = search needs
 truth-word-requires-5 : tie.Need-truth-word-requires-5
 truth-word-requires-5 c κs = search needs
 
-contains-requires-6 : tie.Need-contains-requires-6
-contains-requires-6 c κs = search needs
-
-truth-word-requires-6 : tie.Need-truth-word-requires-6
-truth-word-requires-6 c κs = search needs
-
 lanes-requires-2 : tie.Need-lanes-requires-2
 lanes-requires-2 c κs = search needs
 
 returns : tie.Need-returns
 returns c =
-    let w = c .before in
-    let h = w .before in
-    let k = h .before .before .before in
-    let a = k .before .before .before .before .args in
-    low (c .not-word .ensures)
-    ∙ lane-one notBit (w .truth-word .result)
-    ∙ ap notBit (w .truth-word .ensures ∙ ap truthBit (h .contains .ensures))
-    ∙ contains-and (fromPlanes (a .a .width) (a .av .now) (a .au .now))
-    ∙ told k _ (h .before .enum-told .given .1)
+    let x = c .before in
+    everywhere (c .filled .ensures) ∙ x .and-bits .ensures ∙ told (x .before .before .before) _ (x .before .enum-told .given .1)
 
 returns-2 : tie.Need-returns-2
 returns-2 c =
     let h = c .before in
     let k = h .before .before .before in
     let a = k .before .before .before .before .args in
-    c .truth-word2 .ensures
-    ∙ ap truthBit (h .contains2 .ensures)
+    c .truth-word .ensures
+    ∙ ap truthBit (h .contains .ensures)
     ∙ truth-or (fromPlanes (a .a .width) (a .av .now) (a .au .now))
     ∙ told k _ (h .before .enum-told2 .given .1)
 
 returns-3 : tie.Need-returns-3
 returns-3 c =
     let x = c .before in
-    everywhere (c .filled .ensures) ∙ x .xor-bits .ensures ∙ told (x .before .before .before) _ (x .before .enum-told3 .given .1)
+    everywhere (c .filled2 .ensures) ∙ x .xor-bits .ensures ∙ told (x .before .before .before) _ (x .before .enum-told3 .given .1)
 
 returns-4 : tie.Need-returns-4
 returns-4 c =
     let x = c .before in
-    everywhere (c .filled2 .ensures) ∙ x .compare .ensures ∙ told (x .before .before .before .before) _ (x .before .before .q .given .1)
+    everywhere (c .filled3 .ensures) ∙ x .compare .ensures ∙ told (x .before .before .before .before) _ (x .before .before .q .given .1)
 
 returns-5 : tie.Need-returns-5
 returns-5 c =
     let y = c .before in
     let x = y .before .before in
     low (c .lanes .ensures)
-    ∙ lane-bit andBit (x .truth-word3 .result) (y .truth-word4 .result)
-    ∙ ap₂ andBit (x .truth-word3 .ensures ∙ ap truthBit (x .before .contains3 .ensures)) (y .truth-word4 .ensures ∙ ap truthBit (y .before .contains4 .ensures))
+    ∙ lane-bit andBit (x .truth-word2 .result) (y .truth-word3 .result)
+    ∙ ap₂ andBit (x .truth-word2 .ensures ∙ ap truthBit (x .before .contains2 .ensures)) (y .truth-word3 .ensures ∙ ap truthBit (y .before .contains3 .ensures))
     ∙ told (x .before .before .before .before) _ (x .before .before .enum-told4 .given .1)
 
 returns-6 : tie.Need-returns-6
@@ -153,8 +143,8 @@ returns-6 c =
     let y = c .before in
     let x = y .before .before in
     low (c .lanes2 .ensures)
-    ∙ lane-bit orBit (x .truth-word5 .result) (y .truth-word6 .result)
-    ∙ ap₂ orBit (x .truth-word5 .ensures ∙ ap truthBit (x .before .contains5 .ensures)) (y .truth-word6 .ensures ∙ ap truthBit (y .before .contains6 .ensures))
+    ∙ lane-bit orBit (x .truth-word4 .result) (y .truth-word5 .result)
+    ∙ ap₂ orBit (x .truth-word4 .ensures ∙ ap truthBit (x .before .contains4 .ensures)) (y .truth-word5 .ensures ∙ ap truthBit (y .before .contains5 .ensures))
     ∙ told (x .before .before .before .before) _ (x .before .before .enum-told5 .given .1)
 
 pub answer-spec : {M : Type 1} → statement M
@@ -162,29 +152,28 @@ answer-spec =
     tie.close
     (tie.spec
     enum-told
+    and-bits-requires
+    filled-requires
+    enum-told-2
     contains-requires
     truth-word-requires
-    not-word-requires
-    enum-told-2
-    contains-requires-2
-    truth-word-requires-2
     enum-told-3
     xor-bits-requires
-    filled-requires
+    filled-requires-2
     enum-known-q
     compare-requires
-    filled-requires-2
+    filled-requires-3
     enum-told-4
+    contains-requires-2
+    truth-word-requires-2
     contains-requires-3
     truth-word-requires-3
-    contains-requires-4
-    truth-word-requires-4
     lanes-requires
     enum-told-5
+    contains-requires-4
+    truth-word-requires-4
     contains-requires-5
     truth-word-requires-5
-    contains-requires-6
-    truth-word-requires-6
     lanes-requires-2
     returns
     returns-2
