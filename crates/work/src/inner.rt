@@ -128,10 +128,11 @@ pub fn work(
             Truth::Unknown => join_planes(Bitwise::Merge, b, bv, bu, c, cv, cu, b.width, ov, ou),
         },
         Family::Insert => {
+            let n = b.width as usize;
             let bits = operand_word(bv, bu, b.width, 0, LogicBit::Zero);
             copy_words(av, ov);
             copy_words(au, ou);
-            bits::inner::splice64(a.width, ov, ou, pos, bits, b.width as usize)
+            bits::inner::splice64(a.width, ov, ou, pos, bits, n)
         }
     }
 }

@@ -154,29 +154,29 @@ join-planes-requires-2 c κs =
 enum-told-6 : tie.Need-enum-told-6
 enum-told-6 c = search needs
 
+cast-n : tie.Need-cast-n
+cast-n c = search needs
+
 operand-word-requires : tie.Need-operand-word-requires
 operand-word-requires c κs = search needs
 
 copy-words-requires-5 : tie.Need-copy-words-requires-5
 copy-words-requires-5 c κs =
-    let t = c .before .before in
+    let t = c .before .before .before in
     let k = t .before .before in
     sized k _ (t .enum-told6 .given .1) .0 ∙ sym (k .before .before .before .before .before .before .before .before .before .pre .0 .0 .count)
 
 copy-words-requires-6 : tie.Need-copy-words-requires-6
 copy-words-requires-6 c κs =
-    let t = c .before .before .before .before .before .before in
+    let t = c .before .before .before .before .before .before .before in
     let k = t .before .before in
     sized k _ (t .enum-told6 .given .1) .1 ∙ sym (k .before .before .before .before .before .before .before .before .before .pre .0 .1 .count)
 
-cast-splice64 : tie.Need-cast-splice64
-cast-splice64 c = search needs
-
 splice64-requires : tie.Need-splice64-requires
 splice64-requires c κs =
-    let u = c .before .before .before .before .before in
+    let u = c .before .before .before .before in
     let v = u .before .before .before .before in
-    let s = v .before .before .before .before .before .before .before .before .before .before .before .before .before .before in
+    let s = v .before .before .before .before .before .before .before .before .before .before .before .before .before .before .before in
     let w = s .args .a .width in
     (subst (Plane w) (sym (v .copy-words5 .ensures)) (s .pre .0 .0), subst (Plane w) (sym (u .copy-words6 .ensures)) (s .pre .0 .1))
 
@@ -282,10 +282,10 @@ same-length-14 c = search needs
 returns-7 : tie.Need-returns-7
 returns-7 c =
     let z = c .before .before .before .before in
-    let u = z .before .before .before .before .before .before in
+    let u = z .before .before .before .before .before in
     let v = u .before .before .before .before in
     let o = v .before .before in
-    let t = o .before in
+    let t = o .before .before in
     let k = t .before .before in
     let a = k .before .before .before .before .before .before .before .before .before .args in
     z .splice64 .ensures
@@ -319,10 +319,10 @@ work-spec =
     enum-told-5
     join-planes-requires-2
     enum-told-6
+    cast-n
     operand-word-requires
     copy-words-requires-5
     copy-words-requires-6
-    cast-splice64
     splice64-requires
     same-length
     same-length-2
