@@ -7,31 +7,34 @@ ghost use Rattle.words.specs.Planes.{fromPlanes, Plane};
 ghost use Rattle.fold.specs.Fold.{reduceAnd, reduceOr, reduceXor, truthOf, knownBit};
 ghost use Rattle.fold.specs.Fold as fold;
 
-// Whether a known 1 stands in the vector, or a known 0 where `one` is false; unknown where only an unknown bit could be it. The last word is
-// looked at first, up to the width.
+// Whether a known 1 stands in the vector, or a known 0 where `one` is false; unknown where only an unknown bit could be it.
 pub fn contains(width: u32, value: &[u64], unknown: &[u64], one: bool) -> Truth
     requires { ⌜ Plane width (now value) ⌝ }
     requires { ⌜ Plane width (now unknown) ⌝ }
     ensures { λ r. ⌜ r ≡ fold.contains (knownBit one) (fromPlanes width (now (value .entry)) (now (unknown .entry))) ⌝ }
 {
-    let full = if one { 0 } else { 0xffff_ffff_ffff_ffff };
-    let mut k = value.len();
-    let mut flip = full & ones(width as usize - (k - 1) * 64);
+    let flip = if one { 0 } else { 0xffff_ffff_ffff_ffff };
+    let last = value.len() - 1;
     let mut seen = 0;
-    while 0 < k {
-        k -= 1;
+    let mut k = 0;
+    while k < last {
         let u = unknown[k];
         if ((value[k] ^ flip) & !u) != 0 {
             return Truth::True;
         }
         seen = seen | u;
-        flip = full;
+        k += 1;
     }
-    if seen != 0 {
-        Truth::Unknown
-    } else {
-        Truth::False
+    let u = unknown[last];
+    let n = width as usize - last * 64;
+    let m = ones(n);
+    if ((value[last] ^ flip) & !u & m) != 0 {
+        return Truth::True;
     }
+    if (seen | u) != 0 {
+        return Truth::Unknown;
+    }
+    Truth::False
 }
 
 // True on a known 1, else unknown on an unknown bit, else false.

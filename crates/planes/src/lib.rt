@@ -30,11 +30,13 @@ pub fn check_lengths(width: u32, value: &[u64], unknown: &[u64]) -> Verdict
         return Verdict::Refused(Refusal::TooWide);
     }
     let n = words::word_count(width);
-    if (value.len() == n) & (unknown.len() == n) {
-        Verdict::Accepted
-    } else {
-        Verdict::Refused(Refusal::PlaneLength)
+    if value.len() != n {
+        return Verdict::Refused(Refusal::PlaneLength);
     }
+    if unknown.len() != n {
+        return Verdict::Refused(Refusal::PlaneLength);
+    }
+    Verdict::Accepted
 }
 
 // Whether the planes may be those of a vector of that width: 1, then 2, then 3.
@@ -44,11 +46,13 @@ pub fn check_planes(width: u32, value: &[u64], unknown: &[u64]) -> Verdict
     match check_lengths(width, value, unknown) {
         Verdict::Refused(r) => Verdict::Refused(r),
         Verdict::Accepted => {
-            if words::inner::is_clear(value, width) & words::inner::is_clear(unknown, width) {
-                Verdict::Accepted
-            } else {
-                Verdict::Refused(Refusal::BitAboveWidth)
+            if !words::inner::is_clear(value, width) {
+                return Verdict::Refused(Refusal::BitAboveWidth);
             }
+            if !words::inner::is_clear(unknown, width) {
+                return Verdict::Refused(Refusal::BitAboveWidth);
+            }
+            Verdict::Accepted
         }
     }
 }

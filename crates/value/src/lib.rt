@@ -40,11 +40,12 @@ pub fn check_vector(h: Header, value: &[u64], unknown: &[u64]) -> Verdict
     match planes::check_planes(width, value, unknown) {
         Verdict::Refused(r) => Verdict::Refused(r),
         Verdict::Accepted => {
-            if h.is_fill & (width == 0) {
-                Verdict::Refused(Refusal::EmptyFill)
-            } else {
-                Verdict::Accepted
+            if h.is_fill {
+                if width == 0 {
+                    return Verdict::Refused(Refusal::EmptyFill);
+                }
             }
+            Verdict::Accepted
         }
     }
 }
@@ -66,11 +67,13 @@ pub fn check_operand(o: Operand, value: &[u64], unknown: &[u64]) -> Verdict
     match o {
         Operand::Vector(h) => check_vector(h, value, unknown),
         Operand::Real(_) => {
-            if (value.len() == 0) & (unknown.len() == 0) {
-                Verdict::Accepted
-            } else {
-                Verdict::Refused(Refusal::PlaneLength)
+            if value.len() != 0 {
+                return Verdict::Refused(Refusal::PlaneLength);
             }
+            if unknown.len() != 0 {
+                return Verdict::Refused(Refusal::PlaneLength);
+            }
+            Verdict::Accepted
         }
     }
 }
@@ -80,11 +83,13 @@ pub fn check_output(width: u32, value: &[u64], unknown: &[u64]) -> Verdict
     ensures { λ r. ⌜ verdict r ≡ checkOutput width (lent (now (value .entry)) (now (unknown .entry))) ⌝ }
 {
     let n = words::word_count(width);
-    if (value.len() == n) & (unknown.len() == n) {
-        Verdict::Accepted
-    } else {
-        Verdict::Refused(Refusal::OutputLength)
+    if value.len() != n {
+        return Verdict::Refused(Refusal::OutputLength);
     }
+    if unknown.len() != n {
+        return Verdict::Refused(Refusal::OutputLength);
+    }
+    Verdict::Accepted
 }
 
 // A width above the widest vector's becomes that.

@@ -1,8 +1,7 @@
 -- `planes::check_planes`: the lengths are accepted, then each plane's last word tells.
 use mathlib.Core.Path.{_≡_, sym, ap, _∙_}
-use mathlib.Core.Bool.{true, false, _&&_}
-use native.Mathlib.Omega.{arith}
-use Rattle.refusal.specs.Outcome.{verdict}
+use borrow.Author.Tests.{not-true, not-false}
+use Rattle.refusal.specs.Outcome.{Answer, after, verdict}
 use Rattle.planes.specs.Entries.{checkPlanes}
 use Rattle.planes.proofs.Checks.{lengths-accepted}
 use borrow.Author.Needs.{needs}
@@ -21,35 +20,39 @@ enum-told c = search needs
 is-clear-requires : tie.Need-is-clear-requires
 is-clear-requires c κs = lengths-accepted _ _ (sym (c .before .before .check-lengths .ensures) ∙ ap verdict (c .enum-told .given .1)) .value-length
 
-is-clear-requires-2 : tie.Need-is-clear-requires-2
-is-clear-requires-2 c κs =
-    let t = c .before in
-    let l = lengths-accepted _ _ (sym (t .before .before .check-lengths .ensures) ∙ ap verdict (t .enum-told .given .1)) in
-    omega (arith, l .value-length, l .unknown-length)
-
 returns : tie.Need-returns
 unfolding checkPlanes
 returns c =
-    let t = c .before in
-    simp (sym (t .before .before .check-lengths .ensures) ∙ ap verdict (t .r .given .1))
+    let t = c .before .before in
+    let e = sym (t .before .before .check-lengths .ensures) ∙ ap verdict (t .enum-told .given .1) in
+    simp (e, sym (c .before .is-clear .ensures) ∙ not-true _ (c .if1 .taken))
+
+is-clear-requires-2 : tie.Need-is-clear-requires-2
+is-clear-requires-2 c κs =
+    let t = c .before .before in
+    lengths-accepted _ _ (sym (t .before .before .check-lengths .ensures) ∙ ap verdict (t .enum-told .given .1)) .unknown-length
 
 returns-2 : tie.Need-returns-2
 unfolding checkPlanes
 returns-2 c =
-    let u = c .before in
-    let k = u .before in
-    let t = k .before in
-    let e : (k .is-clear .result && u .is-clear2 .result) ≡ true = c .if1 .taken in
-    simp (sym (t .before .before .check-lengths .ensures) ∙ ap verdict (t .enum-told .given .1), rw (k .is-clear .ensures, u .is-clear2 .ensures) at e)
+    let k = c .before .before in
+    let t = k .before .before in
+    let e = sym (t .before .before .check-lengths .ensures) ∙ ap verdict (t .enum-told .given .1) in
+    simp (e, sym (k .before .is-clear .ensures) ∙ not-false _ (k .if1 .left), sym (c .before .is-clear2 .ensures) ∙ not-true _ (c .if2 .taken))
 
 returns-3 : tie.Need-returns-3
 unfolding checkPlanes
 returns-3 c =
-    let u = c .before in
-    let k = u .before in
-    let t = k .before in
-    let e : (k .is-clear .result && u .is-clear2 .result) ≡ false = c .if1 .left in
-    simp (sym (t .before .before .check-lengths .ensures) ∙ ap verdict (t .enum-told .given .1), rw (k .is-clear .ensures, u .is-clear2 .ensures) at e)
+    let t = c .before in
+    simp (sym (t .before .before .check-lengths .ensures) ∙ ap verdict (t .r .given .1))
+
+returns-4 : tie.Need-returns-4
+unfolding checkPlanes
+returns-4 c =
+    let k = c .before .before in
+    let t = k .before .before in
+    let e = sym (t .before .before .check-lengths .ensures) ∙ ap verdict (t .enum-told .given .1) in
+    simp (e, sym (k .before .is-clear .ensures) ∙ not-false _ (k .if1 .left), sym (c .before .is-clear2 .ensures) ∙ not-false _ (c .if2 .left))
 
 pub check-planes-spec : {M : Type 1} → statement M
 check-planes-spec =
@@ -59,7 +62,8 @@ check-planes-spec =
     enum-known-r
     enum-told
     is-clear-requires
-    is-clear-requires-2
     returns
+    is-clear-requires-2
     returns-2
-    returns-3)
+    returns-3
+    returns-4)

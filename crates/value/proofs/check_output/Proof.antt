@@ -1,8 +1,6 @@
--- `value::check_output`: each return rewrites with the test on the way.
-use mathlib.Core.Path.{_≡_}
-use mathlib.Core.Bool.{true, false, _&&_}
-use lib.Dec.{eqb}
-use lib.ListN.{length}
+-- `value::check_output`: each return rewrites with the tests on the way.
+use mathlib.Core.Path.{_∙_, sym}
+use borrow.Author.Tests.{eq-eqb, ne-eqb}
 use Rattle.value.specs.Checks.{checkOutput}
 use borrow.Author.Needs.{needs}
 use Rattle.value.proofs.check_output.Statement.{statement}
@@ -14,18 +12,20 @@ word-count-requires c κs = search needs
 returns : tie.Need-returns
 unfolding checkOutput
 returns c =
-    let w = c .before .word-count in
-    let a = c .before .before .before .before .args in
-    let e : (eqb (length (a .value .now)) (w .result) && eqb (length (a .unknown .now)) (w .result)) ≡ true = c .if1 .taken in
-    simp (rw (w .ensures) at e)
+    let n = c .before .word-count .ensures in
+    simp (ne-eqb _ _ (λ e. c .if1 .taken (e ∙ sym n)))
 
 returns-2 : tie.Need-returns-2
 unfolding checkOutput
 returns-2 c =
-    let w = c .before .word-count in
-    let a = c .before .before .before .before .args in
-    let e : (eqb (length (a .value .now)) (w .result) && eqb (length (a .unknown .now)) (w .result)) ≡ false = c .if1 .left in
-    simp (rw (w .ensures) at e)
+    let n = c .before .before .word-count .ensures in
+    simp (eq-eqb _ _ (c .before .if1 .left ∙ n), ne-eqb _ _ (λ e. c .if2 .taken (e ∙ sym n)))
+
+returns-3 : tie.Need-returns-3
+unfolding checkOutput
+returns-3 c =
+    let n = c .before .before .word-count .ensures in
+    simp (eq-eqb _ _ (c .before .if1 .left ∙ n), eq-eqb _ _ (c .if2 .left ∙ n))
 
 pub check-output-spec : {M : Type 1} → statement M
-check-output-spec = tie.close (tie.spec word-count-requires returns returns-2)
+check-output-spec = tie.close (tie.spec word-count-requires returns returns-2 returns-3)

@@ -1,5 +1,6 @@
 -- `value::check_vector`: the planes are checked, then the mark of a fill.
 use mathlib.Core.Path.{sym, ap, _∙_}
+use borrow.Author.Tests.{eq-eqb, ne-eqb}
 use Rattle.refusal.specs.Outcome.{verdict}
 use Rattle.value.specs.Checks.{checkVector}
 use borrow.Author.Needs.{needs}
@@ -18,22 +19,28 @@ enum-told c = search needs
 returns : tie.Need-returns
 unfolding checkVector
 returns c =
-    let t = c .before in
-    simp (sym (t .before .before .check-planes .ensures) ∙ ap verdict (t .r .given .1))
+    let t = c .before .before in
+    simp (sym (t .before .before .check-planes .ensures) ∙ ap verdict (t .enum-told .given .1), c .before .if1 .taken, eq-eqb _ _ (c .if2 .taken))
 
 returns-2 : tie.Need-returns-2
 unfolding checkVector
 returns-2 c =
-    let t = c .before .before in
-    simp (sym (t .before .before .check-planes .ensures) ∙ ap verdict (t .enum-told .given .1), c .if1 .taken)
+    let t = c .before in
+    simp (sym (t .before .before .check-planes .ensures) ∙ ap verdict (t .r .given .1))
 
 returns-3 : tie.Need-returns-3
 unfolding checkVector
 returns-3 c =
     let t = c .before .before in
+    simp (sym (t .before .before .check-planes .ensures) ∙ ap verdict (t .enum-told .given .1), c .before .if1 .taken, ne-eqb _ _ (c .if2 .left))
+
+returns-4 : tie.Need-returns-4
+unfolding checkVector
+returns-4 c =
+    let t = c .before in
     simp (sym (t .before .before .check-planes .ensures) ∙ ap verdict (t .enum-told .given .1), c .if1 .left)
 
 pub check-vector-spec : {M : Type 1} → statement M
 check-vector-spec =
     tie.close
-    (tie.spec check-planes-requires enum-known-r enum-told returns returns-2 returns-3)
+    (tie.spec check-planes-requires enum-known-r enum-told returns returns-2 returns-3 returns-4)

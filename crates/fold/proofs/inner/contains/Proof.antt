@@ -1,31 +1,28 @@
--- `fold::inner::contains`: no word from k on has the bit looked for, and `seen` is not 0 where one of them has an unknown bit.
-use mathlib.Core.Path.{_≡_, sym, ap, _∙_}
-use mathlib.Core.Bool.{Bool, true, false, not}
-use mathlib.Core.Logic.{⊎-elim}
-use Prim.Native.Nat.{ℕ, _+_, _-_, _*_, _^_, _≤_, _<_, min}
+-- `fold::inner::contains`: no word before k has the bit looked for, and `seen` is not 0 where one of them has an unknown bit.
+use Prim.Native.Nat.{_+_, _-_, _*_, _≤_, min}
 use native.Mathlib.Omega.{arith}
+use mathlib.Core.Path.{_≡_, sym, ap, _∙_}
+use mathlib.Core.Bool.{true, false}
+use mathlib.Core.Logic.{⊎-elim}
 use borrow.Author.Needs.{needs}
 use borrow.Author.Tests.{eq-eqb, ne-eqb}
-use lib.Bits.{bitAnd, bitXor}
-use lib.Dec.{eqb}
+use lib.Bits.{bitOr}
 use lib.ListN.{length, getD}
-use Rattle.fold.specs.Scanned.{some}
 use Rattle.fold.proofs.Places.{WordPlanes}
-use Rattle.fold.proofs.Known.{hit, Scanned, start, marked, more, found, done, flipOf, flip-cut}
+use Rattle.fold.proofs.Scan.{start}
+use Rattle.fold.proofs.Known.{Scanned, whole, cut, more, found, done, flipOf}
 use Rattle.fold.proofs.inner.contains.Statement.{statement}
 use Rattle.fold.proofs.inner.contains.Tie as tie
 
--- what the word before k is read by is cut off at the width
 abbrev Inv-loop : tie.InvT-loop
-Inv-loop width value unknown one full k₀ flip₀ seen₀ k flip seen =
-    (k ≤ length value) × (0 < k → flip ≡ flipOf one (min 64 (width - (k - 1) * 64))) × Scanned width value unknown one seen k
+Inv-loop width value unknown one flip last seen₀ k₀ seen k = (k ≤ last) × Scanned width value unknown one seen k
 
 abbrev μ-loop : tie.MeasureT-loop
-μ-loop width value unknown one full k₀ flip₀ seen₀ k flip seen = k
+μ-loop width value unknown one flip last seen₀ k₀ seen k = last - k
 
 module _ (c : tie.Joined1 Inv-loop μ-loop) where
-  full-is : c .if1 .full ≡ flipOf (c .before .before .before .args .one) 64
-  full-is = ⊎-elim (λ t. t .1 ∙ ap (λ (b : Bool). flipOf b 64) (sym (t .0 .taken))) (λ t. t .1 ∙ ap (λ (b : Bool). flipOf b 64) (sym (t .0 .left))) (c .if1 .came)
+  flip-is : c .if1 .flip ≡ flipOf (c .before .before .before .args .one)
+  flip-is = ⊎-elim (λ t. t .1 ∙ ap flipOf (sym (t .0 .taken))) (λ t. t .1 ∙ ap flipOf (sym (t .0 .left))) (c .if1 .came)
 
   planes : let a = c .before .before .before .args in WordPlanes (a .width) (a .value .now) (a .unknown .now)
   planes = record {
@@ -35,44 +32,32 @@ module _ (c : tie.Joined1 Inv-loop μ-loop) where
     unknown-words = λ k. c .before .shared-slice-known2 .given k .fits;
   }
 
--- word k - 1, by what it is read by
-word : (c : tie.After-shared-slice-known4 Inv-loop μ-loop) → let l = c .before .before .before in let a = l .before .before .before .before .before .before .args in
-    not (eqb (bitAnd (bitXor (getD (a .value .now) (l .loop .k - 1) 0) (l .loop .flip)) ((2 ^ 64 - 1) - getD (a .unknown .now) (l .loop .k - 1) 0)) 0)
-    ≡ some 64 (λ j. hit (a .width) (a .value .now) (a .unknown .now) (a .one) ((l .loop .k - 1) * 64 + j))
-word c =
+  -- how many bits the last word has
+  in-top : let a = c .before .before .before .args in let last = length (a .value .now) - 1 in a .width - last * 64 ≡ min 64 (a .width - last * 64)
+  in-top = omega (arith, c .before .before .before .pre .0 .count)
+
+-- all words but the last one are scanned
+top : (c : tie.After-ones Inv-loop μ-loop) → let l = c .before .before .before in let a = l .before .before .before .before .args in
+    Scanned (a .width) (a .value .now) (a .unknown .now) (a .one) (l .loop .seen) (length (a .value .now) - 1)
+top c =
     let l = c .before .before .before in
-    let g = l .before .before .before in
-    marked _ _ _ (g .before .before .before .args .one) (planes g) (l .loop .flip) (l .loop .k - 1) (l .loop .inv .1 (c .before .before .loop-test .taken))
+    let e : l .loop .k ≡ length (l .before .before .before .before .args .value .now) - 1 = omega arith in
+    rw e at (l .loop .inv .1)
 
-sub-ones : tie.Need-sub-ones Inv-loop μ-loop
-sub-ones c = search needs
+-- the last one too
+whole-plane : (c : tie.Else3 Inv-loop μ-loop) → let l = c .before .before .before .before .before .before in let a = l .before .before .before .before .args in
+    Scanned (a .width) (a .value .now) (a .unknown .now) (a .one) (bitOr (l .loop .seen) (getD (a .unknown .now) (length (a .value .now) - 1) 0)) (length (a .value .now) - 1 + 1)
+whole-plane c =
+    let t = c .before .before .before in
+    let g = t .before .before .before .before in
+    let one = g .before .before .before .args .one in
+    more _ _ _ one (planes g) _ _ _ (top t) (cut _ _ _ one (planes g) _ (flip-is g) _ _ _ (in-top g) (t .ones .ensures)) (c .if3 .left)
 
-mul-ones : tie.Need-mul-ones Inv-loop μ-loop
-mul-ones c = search needs
-
-sub-ones-2 : tie.Need-sub-ones-2 Inv-loop μ-loop
-sub-ones-2 c = search needs
-
-ones-requires : tie.Need-ones-requires Inv-loop μ-loop
-ones-requires c κs = search needs
+sub-last : tie.Need-sub-last Inv-loop μ-loop
+sub-last c = search needs
 
 loop-holds : tie.Need-loop-holds Inv-loop μ-loop
-loop-holds c =
-    let o = c .before in
-    let g = o .before in
-    let s = g .before .before .before in
-    let a = s .args in
-    let n : ℕ = a .width - (length (a .value .now) - 1) * 64 in
-    let e : min 64 n ≡ n = omega (arith, s .pre .0 .count) in (
-      omega arith,
-      λ _. ap (λ (x : ℕ). bitAnd x (o .ones .result)) (full-is g)
-          ∙ flip-cut (a .one) n (o .ones .result) (omega (arith, e)) (o .ones .ensures)
-          ∙ ap (flipOf (a .one)) (sym e),
-      start (a .width) (a .value .now) (a .unknown .now) (a .one),
-    )
-
-sub-k : tie.Need-sub-k Inv-loop μ-loop
-sub-k c = search needs
+loop-holds c = (omega arith, start _ _ _ _ _)
 
 mul-u : tie.Need-mul-u Inv-loop μ-loop
 mul-u c = search needs
@@ -88,42 +73,61 @@ shared-slice-read-if2 c = search needs
 
 returns : tie.Need-returns Inv-loop μ-loop
 returns c =
-    let l = c .before .before .before .before in
-    let g = l .before .before .before in
-    found _ _ _ (g .before .before .before .args .one) (planes g) (l .loop .k - 1) _ (word (c .before)) (c .if2 .taken)
+    let l = c .before .before .before .before .before in
+    let g = l .before in
+    let one = g .before .before .before .args .one in
+    found _ _ _ one (planes g) _ _ _ (l .loop .inv .1) (whole _ _ _ one (planes g) _ (flip-is g) _ (omega arith)) (c .if2 .taken)
+
+add-k : tie.Need-add-k Inv-loop μ-loop
+add-k c = search needs
 
 loop-less : tie.Need-loop-less Inv-loop μ-loop
 loop-less c = search needs
 
 loop-again : tie.Need-loop-again Inv-loop μ-loop
 loop-again c =
-    let l = c .before .before .before .before in
-    let g = l .before .before .before in
-    let s = g .before .before .before in
-    let a = s .args in
-    let k : ℕ = l .loop .k - 1 in
-    let e : l .loop .k ≡ k + 1 = omega arith in (
-      omega arith,
-      λ m. full-is g ∙ ap (flipOf (a .one)) (let f : 64 ≡ min 64 (a .width - (k - 1) * 64) = omega (arith, s .pre .0 .count, l .loop .inv .0) in f),
-      more _ _ _ (a .one) (planes g) k _ (word (c .before)) (l .loop .seen) (rw e at (l .loop .inv .2)) (omega arith) (c .if2 .left),
-    )
+    let l = c .before .before .before .before .before in
+    let g = l .before in
+    let one = g .before .before .before .args .one in
+    (omega arith, more _ _ _ one (planes g) _ _ _ (l .loop .inv .1) (whole _ _ _ one (planes g) _ (flip-is g) _ (omega arith)) (c .if2 .left))
 
--- nothing is left
-all-words : (c : tie.After-loop Inv-loop μ-loop) → let l = c .before in let a = l .before .before .before .before .before .before .args in
-    Scanned (a .width) (a .value .now) (a .unknown .now) (a .one) (l .loop .seen) 0
-all-words c = let e : c .before .loop .k ≡ 0 = omega arith in rw e at (c .before .loop .inv .2)
+mul-u-2 : tie.Need-mul-u-2 Inv-loop μ-loop
+mul-u-2 c = search needs
+
+shared-slice-read-u-2 : tie.Need-shared-slice-read-u-2 Inv-loop μ-loop
+shared-slice-read-u-2 c = search needs
+
+mul-n : tie.Need-mul-n Inv-loop μ-loop
+mul-n c = search needs
+
+sub-n : tie.Need-sub-n Inv-loop μ-loop
+sub-n c = search needs
+
+ones-requires : tie.Need-ones-requires Inv-loop μ-loop
+ones-requires c κs = search needs
+
+mul-if3 : tie.Need-mul-if3 Inv-loop μ-loop
+mul-if3 c = search needs
+
+shared-slice-read-if3 : tie.Need-shared-slice-read-if3 Inv-loop μ-loop
+shared-slice-read-if3 c = search needs
 
 returns-2 : tie.Need-returns-2 Inv-loop μ-loop
 returns-2 c =
-    let s = c .before .before .before .before .before .before .before .before in
-    let a = s .args in
-    done (a .width) (a .value .now) (a .unknown .now) (a .one) _ (all-words (c .before)) (omega (arith, s .pre .0 .count)) false (ne-eqb _ _ (c .if3 .taken))
+    let t = c .before .before .before in
+    let g = t .before .before .before .before in
+    let one = g .before .before .before .args .one in
+    found _ _ _ one (planes g) _ _ _ (top t) (cut _ _ _ one (planes g) _ (flip-is g) _ _ _ (in-top g) (t .ones .ensures)) (c .if3 .taken)
 
 returns-3 : tie.Need-returns-3 Inv-loop μ-loop
 returns-3 c =
-    let s = c .before .before .before .before .before .before .before .before in
-    let a = s .args in
-    done (a .width) (a .value .now) (a .unknown .now) (a .one) _ (all-words (c .before)) (omega (arith, s .pre .0 .count)) true (eq-eqb _ _ (c .if3 .left))
+    let a = c .before .before .before .before .before .before .before .before .before .before .before .args in
+    done (a .width) (a .value .now) (a .unknown .now) (a .one) _ _ (whole-plane (c .before)) (omega arith) false (ne-eqb _ _ (c .if4 .taken))
+
+returns-4 : tie.Need-returns-4 Inv-loop μ-loop
+returns-4 c =
+    let a = c .before .before .before .before .before .before .before .before .before .before .before .args in
+    done (a .width) (a .value .now) (a .unknown .now) (a .one) _ _ (whole-plane (c .before)) (omega arith) true (eq-eqb _ _ (c .if4 .left))
 
 pub contains-spec : {M : Type 1} → statement M
 contains-spec =
@@ -131,18 +135,23 @@ contains-spec =
     (tie.spec
     Inv-loop
     μ-loop
-    sub-ones
-    mul-ones
-    sub-ones-2
-    ones-requires
+    sub-last
     loop-holds
-    sub-k
     mul-u
     shared-slice-read-u
     mul-if2
     shared-slice-read-if2
     returns
+    add-k
     loop-less
     loop-again
+    mul-u-2
+    shared-slice-read-u-2
+    mul-n
+    sub-n
+    ones-requires
+    mul-if3
+    shared-slice-read-if3
     returns-2
-    returns-3)
+    returns-3
+    returns-4)
