@@ -20,7 +20,6 @@ use Rattle.store.specs.Step.{Memory, checkMemory, stepVector, stepped, addStep}
 use Rattle.store.proofs.Steps.{step-admitted, step-storable, worked-front}
 use Rattle.inputs.specs.Limits.{AllThin}
 use Rattle.turn.specs.Turn.{resultText, Front, frontBits, Showable, shownBits}
-use Rattle.inputs.proofs.Thin.{thin-put}
 use Rattle.turn.proofs.Thin.{step-thin}
 
 pub number-small : (r : Refusal) → refusalNumber r < 100
@@ -39,7 +38,6 @@ number-small BadStore = omega arith
 -- the cell c that a step has added to the memory n
 pub record Shown (m n : Memory) (step : Step) (c : ℕ) : Type 0 where
   pub few : c < 320
-  pub thin : AllThin (n .state .store)
   pub front : Front (getD (n .state .store .cells) c noCell .header) (n .scratch)
   pub bits : frontBits (getD (n .state .store .cells) c noCell .header .width) (n .scratch) ≡ stepVector (m .state) step .bits
 
@@ -64,7 +62,6 @@ step-shown m n step c places thin e =
     subst (λ (o : Memory). Shown m o step c) (sym (d .2))
     (subst (Shown m (stepped v m) step) (sym (d .1)) (record {
       few = a .few;
-      thin = thin-put (v .header) (m .state .store) thin (step-thin (m .state) step thin);
       front = subst (λ (h : Header). Front h (stepped v m .scratch)) (sym k) (record { thin = step-thin (m .state) step thin; value-long = f .value-long; unknown-long = f .unknown-long });
       bits = ap (λ (h : Header). frontBits (h .width) (stepped v m .scratch)) k ∙ ap (λ (r : Vector). r .bits) (f .holds);
     }))
