@@ -4,6 +4,7 @@
 --     named-fits      the cells that it names fit
 --     step-storable   a cell can hold its result
 --     worked-front    the scratch planes then begin with its result
+--     step-added      what it leaves, put together
 --     step-check      where a state holds cells, the check goes by headers alone
 --     step-holds      its result is held behind the others
 use mathlib.Core.Path.{_≡_, refl, sym, ap, ap₂, _∙_, subst}
@@ -41,6 +42,13 @@ use Rattle.store.proofs.Named.{arms-named, header-named, vector-named}
 
 pub header-vector : (s : State) (step : Step) → stepHeader (storeHeaders (s .store)) step ≡ stepVector s step .header
 header-vector s step = header-named (s .store) step ∙ sym (ap (λ (v : Vector). v .header) (vector-named s step))
+
+pub step-added : (m : Memory) (step : Step) (left : State) (scratch : Planes) → checkMemory m step ≡ given tt
+    → left ≡ appended (stepVector (m .state) step) (m .state) → scratch ≡ worked (stepVector (m .state) step) (m .scratch)
+    → outcome (given (m .state .store .count)) (memory left scratch) ≡ addStep m step
+step-added m step left scratch accepted stored shown =
+    ap₂ (λ (s : State) (p : Planes). outcome (given (m .state .store .count)) (memory s p)) stored shown
+    ∙ sym (ap (λ (x : Answer Unit). orRefuse x m (outcome (given (m .state .store .count)) (stepped (stepVector (m .state) step) m))) accepted)
 
 pub record Admitted (m : Memory) (step : Step) : Type 0 where
   pub agreed : agrees (m .state) ≡ true

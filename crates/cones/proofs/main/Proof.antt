@@ -1,11 +1,15 @@
 -- `cones::main`: what the run wrote lies in the buffer.
-use mathlib.Core.Path.{ap}
-use Prim.Native.Nat.{zero-le}
+use mathlib.Core.Path.{sym, ap}
+use Prim.Native.Nat.{ℕ, zero-le}
+use lib.ListN.{length-replicate}
 use Rattle.lines.proofs.Put.{place-within}
 use Rattle.steps.specs.Run.{Final}
 use borrow.Author.Needs.{needs}
 use Rattle.cones.proofs.main.Statement.{statement}
 use Rattle.cones.proofs.main.Tie as tie
+
+room-requires : tie.Need-room-requires
+room-requires c κs = search needs
 
 slice-aggregate-read-all : tie.Need-slice-aggregate-read-all
 slice-aggregate-read-all c = search needs
@@ -29,19 +33,19 @@ part-run-start : tie.Need-part-run-start
 part-run-start c = search needs
 
 part-run-end : tie.Need-part-run-end
-part-run-end c = search needs
+part-run-end c = c .before .before .before .read-all .ensures
 
 slice-aggregate-run : tie.Need-slice-aggregate-run
-slice-aggregate-run c = search needs
+slice-aggregate-run c = sym (length-replicate {A = ℕ} 2048 0)
 
 slice-aggregate-run-2 : tie.Need-slice-aggregate-run-2
-slice-aggregate-run-2 c = search needs
+slice-aggregate-run-2 c = sym (length-replicate {A = ℕ} 2048 0)
 
 slice-aggregate-run-3 : tie.Need-slice-aggregate-run-3
-slice-aggregate-run-3 c = search needs
+slice-aggregate-run-3 c = sym (length-replicate {A = ℕ} 2048 0)
 
 slice-aggregate-run-4 : tie.Need-slice-aggregate-run-4
-slice-aggregate-run-4 c = search needs
+slice-aggregate-run-4 c = sym (length-replicate {A = ℕ} 2048 0)
 
 run-requires : tie.Need-run-requires
 run-requires c κs = search needs
@@ -68,6 +72,7 @@ pub main-spec : {M : Type 1} → statement M
 main-spec =
     tie.close
     (tie.spec
+    room-requires
     slice-aggregate-read-all
     read-all-requires
     slice-aggregate-write-all

@@ -19,7 +19,7 @@ use Rattle.store.specs.Step.{Memory, memory, checkMemory, stepVector, na
 use Rattle.store.proofs.Answers.{answer-given, answer-refused}
 use Rattle.store.proofs.Agreed.{state-agrees}
 use Rattle.store.proofs.Named.{header-named, vector-named}
-use Rattle.store.proofs.Steps.{Admitted, header-vector, step-admitted, named-fits, step-storable, Front, worked-front}
+use Rattle.store.proofs.Steps.{Admitted, header-vector, step-admitted, named-fits, step-storable, Front, worked-front, step-added}
 use borrow.Author.Needs.{needs}
 use Rattle.store.proofs.Store.add_step.Statement.{statement}
 use Rattle.store.proofs.Store.add_step.Tie as tie
@@ -183,11 +183,8 @@ returns-2 c =
     let p = c .before .before .before .before in
     let w = p .before .before .before .before .before .before .before .before .before in
     let m = before (t w) in
-    simp (found (t w) .0)
-    (λ i.
-    outcome (given (m .state .store .count))
-    (memory ((p .append .ensures ∙ ap (λ (v : Vector). appended v (m .state)) (front w .holds)) i)
-    ((w .work-cells .ensures ∙ ap (λ (v : Vector). putPlanes 0 (planesOf (v .bits)) (m .scratch)) (is-result (t w))) i)))
+    step-added m (start (t w) .args .step) _ _ (found (t w) .0) (p .append .ensures ∙ ap (λ (v : Vector). appended v (m .state)) (front w .holds))
+    (w .work-cells .ensures ∙ ap (λ (v : Vector). putPlanes 0 (planesOf (v .bits)) (m .scratch)) (is-result (t w)))
 
 pub add-step-spec : {M : Type 1} → statement M
 add-step-spec =

@@ -1,11 +1,11 @@
--- `cones::read_all`: what was read lies in the buffer, which keeps its length.
+-- `stdin::read_all`: what was read lies in the buffer, which keeps its length.
 use mathlib.Core.Path.{_≡_, refl}
 use Prim.Native.Nat.{_≤_, _-_}
 use native.Mathlib.Omega.{arith}
 use lib.ListN.{length}
 use borrow.Author.Needs.{needs}
-use Rattle.cones.proofs.read_all.Statement.{statement}
-use Rattle.cones.proofs.read_all.Tie as tie
+use Rattle.stdin.proofs.read_all.Statement.{statement}
+use Rattle.stdin.proofs.read_all.Tie as tie
 
 abbrev Inv-loop : tie.InvT-loop
 Inv-loop buf₀ done₀ buf done = (done ≤ length buf) × (length buf ≡ length buf₀)
@@ -61,12 +61,6 @@ loop-less c = search needs
 loop-again : tie.Need-loop-again Inv-loop μ-loop
 loop-again c = search needs
 
-same-length-3 : tie.Need-same-length-3 Inv-loop μ-loop
-same-length-3 c = search needs
-
-returns-3 : tie.Need-returns-3 Inv-loop μ-loop
-returns-3 c = search needs
-
 pub read-all-spec : {M : Type 1} → statement M
 read-all-spec =
     tie.close
@@ -78,16 +72,14 @@ read-all-spec =
     part-read-start
     part-read-end
     read-requires
-    same-length
-    returns
     sub-count
     part-count-start
     part-count-end
     count-requires
-    same-length-2
-    returns-2
+    same-length
+    returns
     add-done
     loop-less
     loop-again
-    same-length-3
-    returns-3)
+    same-length-2
+    returns-2)
