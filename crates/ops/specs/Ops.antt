@@ -14,7 +14,8 @@ use Rattle.value.specs.Checks.{Vector}
 use Rattle.value.specs.Constructors.{plain}
 use Rattle.lanes.specs.declared.Bitwise.the-variants as bitwise
 use Rattle.join.specs.Joined.{joined, inverted}
-use Rattle.bitwise.specs.Bitwise.{resultHeader, notHeader}
+use Rattle.vectors.specs.Vectors.{resultHeader}
+use Rattle.bitwise.specs.Bitwise.{notHeader}
 use Rattle.fold.specs.declared.Truth.{Truth}
 use Rattle.fold.specs.declared.Truth.the-variants as truth
 use Rattle.fold.specs.Fold.{reduceAnd, reduceOr, reduceXor, truthOf, truthBit}

@@ -109,7 +109,7 @@ pub fn result_header(op: Op, a: Header, b: Header, c: Header) -> Header
     ensures { λ r. ⌜ r ≡ opHeader op a b c ⌝ }
 {
     match family_of(op) {
-        Family::Join(j) => bitwise::result_header(j, a, b),
+        Family::Join(j) => vectors::result_header(j, a, b),
         Family::Not => Header {
             width: a.width,
             is_signed: a.is_signed,

@@ -1,4 +1,4 @@
--- `bitwise::join_vectors`: refused as checked, else joined.
+-- `vectors::join_vectors`: refused as checked, else joined.
 use mathlib.Core.Path.{_≡_, sym, ap, ap₂, _∙_}
 use Rattle.refusal.specs.Outcome.{Answer, outcome, verdict}
 use Rattle.refusal.specs.Outcome.Answer.{given}
@@ -8,8 +8,8 @@ use Rattle.value.specs.declared.Header.{Header}
 use Rattle.value.specs.Checks.{checkOutput}
 use Rattle.value.proofs.Checks.{vector-accepted}
 use borrow.Author.Needs.{needs}
-use Rattle.bitwise.proofs.join_vectors.Statement.{statement}
-use Rattle.bitwise.proofs.join_vectors.Tie as tie
+use Rattle.vectors.proofs.join_vectors.Statement.{statement}
+use Rattle.vectors.proofs.join_vectors.Tie as tie
 
 check-vector-requires : tie.Need-check-vector-requires
 check-vector-requires c κs = search needs

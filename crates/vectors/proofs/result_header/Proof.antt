@@ -1,4 +1,4 @@
--- `bitwise::result_header`: by the operator.
+-- `vectors::result_header`: by the operator.
 use mathlib.Core.Path.{_≡_, refl, ap, ap₂, _∙_}
 use mathlib.Core.Bool.{Bool, false, _&&_}
 use mathlib.Core.List.{[], _∷_}
@@ -10,10 +10,10 @@ use Rattle.value.specs.declared.Header.{Header}
 use Rattle.lanes.specs.declared.Bitwise.{Bitwise}
 use Rattle.lanes.specs.declared.Bitwise.the-variants.{And, Or, Xor, Merge}
 use Rattle.lanes.proofs.Bitwise.{the-type}
-use Rattle.bitwise.specs.Bitwise.{resultSigned}
+use Rattle.vectors.specs.Vectors.{resultSigned}
 use borrow.Author.Needs.{needs}
-use Rattle.bitwise.proofs.result_header.Statement.{statement}
-use Rattle.bitwise.proofs.result_header.Tie as tie
+use Rattle.vectors.proofs.result_header.Statement.{statement}
+use Rattle.vectors.proofs.result_header.Tie as tie
 
 abbrev headerBy : ℕ → Bool → Header
 headerBy w s = record { width = w; «is_signed» = s; «is_fill» = false }
