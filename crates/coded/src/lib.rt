@@ -3,8 +3,8 @@
 use insert::ChangeAnswer;
 use planes::BitAnswer;
 use planes::WordAnswer;
-use reduce::TruthAnswer;
 use refusal::Verdict;
+use truth::TruthAnswer;
 use value::Header;
 use value::Operand;
 use value::VectorAnswer;
@@ -13,7 +13,7 @@ ghost use Rattle.refusal.specs.Outcome.{verdict};
 ghost use Rattle.planes.specs.Entries.{bitAnswer, wordAnswer};
 ghost use Rattle.value.specs.Checks.{vectorAnswer};
 ghost use Rattle.insert.specs.Insert.{changeAnswer};
-ghost use Rattle.reduce.specs.Reduce.{truthAnswer};
+ghost use Rattle.truth.specs.Truth.{truthAnswer};
 ghost use Rattle.coded.specs.Coded.{codedDone, codedBit, codedWord, codedHeader, codedChange, codedTruth, operandOf};
 
 #[repr(C)]

@@ -8,7 +8,8 @@ use Rattle.value.specs.declared.Operand.{Operand}
 use Rattle.value.specs.Checks.{checkOperand}
 use Rattle.fold.specs.declared.Truth.{Truth}
 use Rattle.fold.specs.Fold.{truthBit}
-use Rattle.reduce.specs.Reduce.{operandTruth, isNonzero, combined}
+use Rattle.truth.specs.Truth.{operandTruth, isNonzero}
+use Rattle.reduce.specs.Reduce.{combined}
 
 -- what follows from a truth, or its refusal
 abbrev onward : Answer Truth → (Truth → Answer LogicBit) → Answer LogicBit

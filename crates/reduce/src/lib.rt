@@ -1,13 +1,13 @@
 // Answers of one bit: the reductions of a vector, the truth of an operand, and the logical operators on the truths of two.
-use fold::Truth;
 use fold::inner::and_bits;
 use fold::inner::or_bits;
-use fold::inner::truth;
 use fold::inner::xor_bits;
 use fold::truth_bit;
 use planes::BitAnswer;
-use refusal::Refusal;
 use refusal::Verdict;
+use truth::TruthAnswer;
+use truth::real_truth;
+use truth::vector_truth;
 use value::Header;
 use value::Operand;
 ghost use mathlib.Core.Path.{_≡_};
@@ -15,14 +15,9 @@ ghost use mathlib.Core.Bool.{cond};
 ghost use Rattle.bit.specs.Rules.{andBit, orBit};
 ghost use Rattle.words.specs.Planes.{lent};
 ghost use Rattle.planes.specs.Entries.{bitAnswer};
-ghost use Rattle.value.specs.declared.Operand.the-variants.{Vector, Real};
 ghost use Rattle.fold.specs.Fold.{reduceAnd, reduceOr, reduceXor};
-ghost use Rattle.reduce.specs.Reduce.{reduction, truthAnswer, isNonzero, combined, logicAnd, logicOr};
-
-pub enum TruthAnswer {
-    Truth(Truth),
-    Refused(Refusal),
-}
+ghost use Rattle.truth.specs.Truth.{truthAnswer};
+ghost use Rattle.reduce.specs.Reduce.{reduction, isNonzero, combined, logicAnd, logicOr};
 
 // 0 on any known 0, else x on any unknown bit, else 1.
 pub fn reduce_and(h: Header, value: &[u64], unknown: &[u64]) -> BitAnswer
@@ -54,32 +49,6 @@ pub fn reduce_xor(h: Header, value: &[u64], unknown: &[u64]) -> BitAnswer
     match value::check_vector(h, value, unknown) {
         Verdict::Refused(r) => BitAnswer::Refused(r),
         Verdict::Accepted => BitAnswer::Bit(xor_bits(width, value, unknown)),
-    }
-}
-
-// The truth of a vector.
-fn vector_truth(h: Header, value: &[u64], unknown: &[u64]) -> TruthAnswer
-    ensures { λ r. ⌜ truthAnswer r ≡ isNonzero (Vector h) (lent (now (value .entry)) (now (unknown .entry))) ⌝ }
-{
-    let width = h.width;
-    match value::check_vector(h, value, unknown) {
-        Verdict::Refused(r) => TruthAnswer::Refused(r),
-        Verdict::Accepted => TruthAnswer::Truth(truth(width, value, unknown)),
-    }
-}
-
-// The truth of a real.
-fn real_truth(x: f64, value: &[u64], unknown: &[u64]) -> TruthAnswer
-    ensures { λ r. ⌜ truthAnswer r ≡ isNonzero (Real x) (lent (now (value .entry)) (now (unknown .entry))) ⌝ }
-{
-    match value::check_operand(Operand::Real(x), value, unknown) {
-        Verdict::Refused(r) => TruthAnswer::Refused(r),
-        Verdict::Accepted => {
-            if x != 0.0 {
-                return TruthAnswer::Truth(Truth::True);
-            }
-            TruthAnswer::Truth(Truth::False)
-        }
     }
 }
 

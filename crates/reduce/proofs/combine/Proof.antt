@@ -5,7 +5,8 @@ use Rattle.bit.specs.declared.LogicBit.{LogicBit}
 use Rattle.bit.specs.Rules.{andBit, orBit}
 use Rattle.refusal.specs.Outcome.Answer.{given}
 use Rattle.words.specs.Planes.{lent}
-use Rattle.reduce.specs.Reduce.{truthAnswer, combined}
+use Rattle.truth.specs.Truth.{truthAnswer}
+use Rattle.reduce.specs.Reduce.{combined}
 use Rattle.reduce.proofs.Truths.{by-truths}
 use borrow.Author.Needs.{needs}
 use Rattle.reduce.proofs.combine.Statement.{statement}

@@ -1,11 +1,11 @@
--- `reduce::vector_truth`: refused as checked, else by the inner function.
+-- `truth::vector_truth`: refused as checked, else by the inner function.
 use mathlib.Core.Path.{sym, ap, _∙_}
 use Rattle.refusal.specs.Outcome.{verdict}
 use Rattle.value.specs.Checks.{checkOperand}
 use Rattle.value.proofs.Checks.{vector-accepted}
 use borrow.Author.Needs.{needs}
-use Rattle.reduce.proofs.vector_truth.Statement.{statement}
-use Rattle.reduce.proofs.vector_truth.Tie as tie
+use Rattle.truth.proofs.vector_truth.Statement.{statement}
+use Rattle.truth.proofs.vector_truth.Tie as tie
 
 check-vector-requires : tie.Need-check-vector-requires
 check-vector-requires c κs = search needs

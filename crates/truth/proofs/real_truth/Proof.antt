@@ -1,10 +1,10 @@
--- `reduce::real_truth`: refused as checked; the code's 0.0 is a pattern of bits.
+-- `truth::real_truth`: refused as checked; the code's 0.0 is a pattern of bits.
 use mathlib.Core.Path.{sym, ap, _∙_}
 use lib.Ieee.{ofBits}
 use Rattle.refusal.specs.Outcome.{verdict}
 use borrow.Author.Needs.{needs}
-use Rattle.reduce.proofs.real_truth.Statement.{statement}
-use Rattle.reduce.proofs.real_truth.Tie as tie
+use Rattle.truth.proofs.real_truth.Statement.{statement}
+use Rattle.truth.proofs.real_truth.Tie as tie
 
 check-operand-requires : tie.Need-check-operand-requires
 check-operand-requires c κs = search needs
