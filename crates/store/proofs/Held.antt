@@ -1,4 +1,5 @@
 -- What a state holds, and how it lasts.
+--     state-agrees    what a store and its arenas agree on, as facts
 --     cell-read       a filled cell lies within the arenas, and its planes are those of a vector
 --     held-count, cell-held     there are as many cells as vectors held, and cell i has vector i
 --     holds-headers   the filled cells have the headers of the vectors held
@@ -25,12 +26,16 @@ use Rattle.value.proofs.Checks.{Sound}
 use Rattle.machine.specs.Machine.{headersOf, wordsTaken}
 use Rattle.cells.specs.declared.Cell.{Cell}
 use Rattle.cells.specs.Cells.{cellPlanes, cellVector, cellHeaders, cellAgrees, cellsAgree, putPlanes}
-use Rattle.store.specs.Store.{State, state, noCell, emptyStore, filled, storeHeaders, nextWord, agrees, putCell, appended, roomOf, Holds}
+use Rattle.layout.specs.Layout.{noCell}
+use Rattle.layout.proofs.Agreed.{Agreed, agree-facts, facts-agree, filled-fits}
+use Rattle.store.specs.Store.{State, state, emptyStore, filled, storeHeaders, nextWord, agrees, putCell, appended, roomOf, Holds}
 use Rattle.store.specs.Step.{Memory}
 use Rattle.store.proofs.Answers.{vector-accepts}
 use Rattle.cells.proofs.Spans.{fits-cell, cells-snoc, cells-same, Readable, fits-read}
-use Rattle.store.proofs.Agreed.{filled-fits, Agreed, state-agrees, agrees-state}
 use Rattle.cells.proofs.Tail.{put-take, put-span, put-length}
+
+pub state-agrees : (s : State) → agrees s ≡ true → Agreed (s .arenas) (s .store .cells) (s .store .count)
+state-agrees s h = agree-facts (s .arenas) (s .store .cells) (s .store .count) h
 
 -- ---- reading
 
@@ -38,7 +43,7 @@ pub cell-read : (s : State) (i : ℕ) (d : Cell) → length (s .store .cells) �
     → Readable (s .arenas) (getD (s .store .cells) i d)
 cell-read s i d n h l =
     let g = state-agrees s h in
-    let f = filled-fits s i d n h l in
+    let f = filled-fits (s .arenas) (s .store .cells) (s .store .count) i d n h l in
     subst (Readable (s .arenas)) (getD-take (s .store .count) (s .store .cells) i d l)
     (fits-read (s .arenas) (getD (filled (s .store)) i d .start) (getD (filled (s .store)) i d) (g .level) f)
 
@@ -66,7 +71,7 @@ pub empty-holds : (a : Planes) → length (a .value) ≡ length (a .unknown) →
 unfolding emptyStore cellsAgree
 empty-holds a e = record {
   places = length-replicate 320 noCell;
-  agreed = agrees-state (state emptyStore a) (record { few = omega arith; level = e; cells = refl });
+  agreed = facts-agree a (emptyStore .cells) 0 (record { few = omega arith; level = e; spans = refl });
   cells = refl;
 }
 
@@ -112,7 +117,7 @@ module _ (s : State) (cs : List Vector) (r : Vector) (holds : Holds s cs) (t : S
   abbrev new : Planes
   new = putPlanes at (planesOf (r .bits)) (s .arenas)
 
-  g : Agreed s
+  g : Agreed (s .arenas) (s .store .cells) (s .store .count)
   g = state-agrees s (holds .agreed)
 
   sound : Sound (r .header) (planesOf (r .bits))
@@ -152,7 +157,7 @@ module _ (s : State) (cs : List Vector) (r : Vector) (holds : Holds s cs) (t : S
       cells-same old new at (omega (arith, room)) value-length (omega (arith, room, g .level)) (omega (arith, room, g .level, unknown-length))
       (sym (put-take at (valuePlane (r .bits)) (old .value) value-fits))
       (sym (put-take at (unknownPlane (r .bits)) (old .unknown) unknown-fits))
-      (filled (s .store)) 0 (omega arith) (g .cells)
+      (filled (s .store)) 0 (omega arith) (g .spans)
 
   fits : cellAgrees new (0 + wordsTaken (cellHeaders (filled (s .store)))) cell ≡ true
   fits =
@@ -162,10 +167,10 @@ module _ (s : State) (cs : List Vector) (r : Vector) (holds : Holds s cs) (t : S
   pub append-holds : Holds (appended r s) (cs ++ (r ∷ []))
   append-holds = record {
     places = length-set (s .store .cells) (s .store .count) cell ∙ holds .places;
-    agreed = agrees-state (appended r s) (record {
+    agreed = facts-agree new (putCell (r .header) (s .store) .cells) (s .store .count + 1) (record {
       few = omega (arith, few);
       level = value-length ∙ g .level ∙ sym unknown-length;
-      cells = ap (cellsAgree new 0) filled-more ∙ cells-snoc new (filled (s .store)) cell 0 (others .0) fits;
+      spans = ap (cellsAgree new 0) filled-more ∙ cells-snoc new (filled (s .store)) cell 0 (others .0) fits;
     });
     cells =
         ap (map (cellVector new)) filled-more

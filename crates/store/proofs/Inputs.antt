@@ -20,11 +20,13 @@ use Rattle.value.specs.declared.Header.{Header}
 use Rattle.value.specs.Checks.{Vector, vector, checkVector}
 use Rattle.value.proofs.Checks.{Sound, vector-accepted}
 use Rattle.machine.specs.Machine.{headersOf, checkCount, checkRoom}
-use Rattle.store.specs.Store.{State, storeHeaders, nextWord, agrees, checkStore, roomOf, appended, checkInput, addInput, Holds}
+use Rattle.layout.specs.Layout.{checkCells}
+use Rattle.layout.proofs.Answers.{not-given}
+use Rattle.layout.proofs.Agreed.{headers-count, next-within}
+use Rattle.store.specs.Store.{State, storeHeaders, nextWord, agrees, roomOf, appended, checkInput, addInput, Holds}
 use Rattle.store.specs.Step.{memory}
-use Rattle.store.proofs.Answers.{not-given, checkHeader, planes-header}
-use Rattle.store.proofs.Agreed.{headers-count, state-agrees, next-within}
-use Rattle.store.proofs.Held.{held-count, holds-headers, Storable, storable-vector, append-holds, value-length, Added}
+use Rattle.store.proofs.Answers.{checkHeader, planes-header}
+use Rattle.store.proofs.Held.{state-agrees, held-count, holds-headers, Storable, storable-vector, append-holds, value-length, Added}
 
 pub record Accepted (s : State) (h : Header) (p : Planes) : Type 0 where
   pub agreed : agrees s ≡ true
@@ -33,7 +35,7 @@ pub record Accepted (s : State) (h : Header) (p : Planes) : Type 0 where
   pub room : nextWord (s .store) + wordCount (h .width) ≤ length (s .arenas .value)
 
 pub input-accepted : (s : State) (h : Header) (p : Planes) → length (s .store .cells) ≡ 320 → checkInput s h p ≡ given tt → Accepted s h p
-unfolding checkStore
+unfolding checkCells
 input-accepted s h p n e =
     go (agrees s) refl (leb 320 (length (storeHeaders (s .store)))) refl (checkVector h p) refl
     (ltb (length (s .arenas .value) - nextWord (s .store)) (wordCount (h .width))) refl e
@@ -49,9 +51,9 @@ input-accepted s h p n e =
     go true ea false eb (given t) ec false ed e =
         record {
           agreed = ea;
-          few = omega (arith, headers-count (s .store) n (state-agrees s ea .few), leb-false 320 (length (storeHeaders (s .store))) eb);
+          few = omega (arith, headers-count (s .store .cells) (s .store .count) n (state-agrees s ea .few), leb-false 320 (length (storeHeaders (s .store))) eb);
           sound = vector-accepted h p ec;
-          room = omega (arith, next-within s ea, ltb-false (length (s .arenas .value) - nextWord (s .store)) (wordCount (h .width)) ed);
+          room = omega (arith, next-within (s .arenas) (s .store .cells) (s .store .count) ea, ltb-false (length (s .arenas .value) - nextWord (s .store)) (wordCount (h .width)) ed);
         }
 
 pub plane-whole : (w : ℕ) (p : List ℕ) → Plane w p → take (wordCount w) p ≡ p
@@ -71,7 +73,7 @@ module _ (s : State) (cs : List Vector) (v : Vector) (holds : Holds s cs) (e : l
 
   pub input-check : (scratch : Planes) → checkInput s (v .header) (planesOf (v .bits))
       ≡ after (checkCount (headersOf cs)) (after (checkHeader (v .header)) (checkRoom (roomOf (s .arenas) scratch) (headersOf cs) (v .header .width)))
-  unfolding checkStore
+  unfolding checkCells
   input-check scratch =
       simp (holds .agreed)
       (ap₂ (λ (hs : List Header) (x : Answer Unit). after (checkCount hs) (after x (checkRoom (roomOf (s .arenas) scratch) hs (v .header .width))))

@@ -1,6 +1,4 @@
 pub mod Answers
-pub mod Agreed
-pub mod Walk
 pub mod Held
 pub mod Inputs
 pub mod Named

@@ -30,18 +30,20 @@ use Rattle.ops.proofs.Accepted.{result-sound}
 use Rattle.machine.specs.Machine.{headersOf, headerAt, names, stepHeader, wordsTaken, checkStep, stepCell}
 use Rattle.cells.specs.declared.Cell.{Cell}
 use Rattle.cells.specs.Cells.{cellPlanes, cellVector}
-use Rattle.store.specs.Store.{State, noCell, storeHeaders, nextWord, agrees, checkStore, appended, roomOf, Holds}
-use Rattle.store.specs.Step.{Memory, memory, checkMemory, stepVector, worked, stepped, addStep, cellNumber, namedCells}
-use Rattle.store.proofs.Answers.{not-given}
+use Rattle.layout.specs.Layout.{noCell, checkCells, cellNumber, namedCells}
+use Rattle.layout.proofs.Answers.{not-given}
+use Rattle.layout.proofs.Agreed.{headers-count, filled-fits, next-within}
+use Rattle.layout.proofs.Named.{arms-named, header-named}
+use Rattle.store.specs.Store.{State, filled, storeHeaders, nextWord, agrees, appended, roomOf, Holds}
+use Rattle.store.specs.Step.{Memory, memory, checkMemory, stepVector, worked, stepped, addStep}
 use Rattle.cells.proofs.Spans.{Fits, fits-read}
-use Rattle.store.proofs.Agreed.{headers-count, filled-fits, state-agrees, next-within}
-use Rattle.store.proofs.Held.{held-count, holds-headers, Storable, storable-sound, storable-vector, append-holds, value-length, Added}
+use Rattle.store.proofs.Held.{state-agrees, held-count, holds-headers, Storable, storable-sound, storable-vector, append-holds, value-length, Added}
 use Rattle.cells.proofs.Tail.{front-is}
 use Rattle.cells.proofs.Named.{Within, names-within}
-use Rattle.store.proofs.Named.{arms-named, header-named, vector-named}
+use Rattle.store.proofs.Named.{vector-named}
 
 pub header-vector : (s : State) (step : Step) → stepHeader (storeHeaders (s .store)) step ≡ stepVector s step .header
-header-vector s step = header-named (s .store) step ∙ sym (ap (λ (v : Vector). v .header) (vector-named s step))
+header-vector s step = header-named (filled (s .store)) step ∙ sym (ap (λ (v : Vector). v .header) (vector-named s step))
 
 pub step-added : (m : Memory) (step : Step) (left : State) (scratch : Planes) → checkMemory m step ≡ given tt
     → left ≡ appended (stepVector (m .state) step) (m .state) → scratch ≡ worked (stepVector (m .state) step) (m .scratch)
@@ -54,7 +56,7 @@ pub record Admitted (m : Memory) (step : Step) : Type 0 where
   pub agreed : agrees (m .state) ≡ true
   pub few : m .state .store .count < 320
   pub all-named : names (m .state .store .count) step ≡ true
-  pub arms : armsRefused (step .op) (namedCells (m .state .store) step .b .header) (namedCells (m .state .store) step .c .header) ≡ false
+  pub arms : armsRefused (step .op) (namedCells (filled (m .state .store)) step .b .header) (namedCells (filled (m .state .store)) step .c .header) ≡ false
   pub room : nextWord (m .state .store) + wordCount (stepVector (m .state) step .header .width) ≤ length (m .state .arenas .value)
   pub value-room : wordCount (stepVector (m .state) step .header .width) ≤ length (m .scratch .value)
   pub unknown-room : wordCount (stepVector (m .state) step .header .width) ≤ length (m .scratch .unknown)
@@ -76,7 +78,7 @@ module _ (m : Memory) (step : Step) (places : length (m .state .store .cells) �
   refusedArms = armsRefused (step .op) (headerAt hs (step .b)) (headerAt hs (step .c))
 
   pub step-admitted : checkMemory m step ≡ given tt → Admitted m step
-  unfolding checkStore checkStep
+  unfolding checkCells checkStep
   step-admitted e =
       go (agrees s) refl (leb 320 (length hs)) refl (names (length hs) step) refl refusedArms refl
       (ltb (length (s .arenas .value) - wordsTaken hs) words) refl (ltb scratch words) refl e
@@ -93,7 +95,7 @@ module _ (m : Memory) (step : Step) (places : length (m .state .store .cells) �
       go true _ false _ true _ false _ true _ z _ e = absurd (not-given 13 tt e)
       go true _ false _ true _ false _ false _ true _ e = absurd (not-given 13 tt e)
       go true ea false eb true en false ex false ey false ez e =
-          let counted : length hs ≡ s .store .count = headers-count (s .store) places (state-agrees s ea .few) in
+          let counted : length hs ≡ s .store .count = headers-count (s .store .cells) (s .store .count) places (state-agrees s ea .few) in
           let same : words ≡ wordCount (stepVector s step .header .width) = ap (λ (h : Header). wordCount (h .width)) (header-vector s step) in
           let y : words ≤ length (s .arenas .value) - wordsTaken hs = ltb-false (length (s .arenas .value) - wordsTaken hs) words ey in
           let z : words ≤ scratch = ltb-false scratch words ez in
@@ -101,8 +103,8 @@ module _ (m : Memory) (step : Step) (places : length (m .state .store .cells) �
             agreed = ea;
             few = omega (arith, counted, leb-false 320 (length hs) eb);
             all-named = ap (λ (n : ℕ). names n step) (sym counted) ∙ en;
-            arms = sym (arms-named (s .store) step) ∙ ex;
-            room = omega (arith, next-within s ea, y, same);
+            arms = sym (arms-named (filled (s .store)) step) ∙ ex;
+            room = omega (arith, next-within (s .arenas) (s .store .cells) (s .store .count) ea, y, same);
             value-room = omega (arith, z, same);
             unknown-room = omega (arith, z, same);
           }
@@ -116,13 +118,13 @@ module _ (m : Memory) (step : Step) (places : length (m .state .store .cells) �
   within : Within (m .state .store .count) step
   within = names-within (m .state .store .count) step (h .all-named)
 
-  cell-fits-at : (i : ℕ) → i < m .state .store .count → Fits a (cellNumber (m .state .store) i .start) (cellNumber (m .state .store) i)
-  cell-fits-at i l = filled-fits (m .state) i noCell places (h .agreed) l
+  cell-fits-at : (i : ℕ) → i < m .state .store .count → Fits a (cellNumber (filled (m .state .store)) i .start) (cellNumber (filled (m .state .store)) i)
+  cell-fits-at i l = filled-fits a (m .state .store .cells) (m .state .store .count) i noCell places (h .agreed) l
 
   pub record Fitting : Type 0 where
-    pub a-fits : Fits a (namedCells (m .state .store) step .a .start) (namedCells (m .state .store) step .a)
-    pub b-fits : Fits a (namedCells (m .state .store) step .b .start) (namedCells (m .state .store) step .b)
-    pub c-fits : Fits a (namedCells (m .state .store) step .c .start) (namedCells (m .state .store) step .c)
+    pub a-fits : Fits a (namedCells (filled (m .state .store)) step .a .start) (namedCells (filled (m .state .store)) step .a)
+    pub b-fits : Fits a (namedCells (filled (m .state .store)) step .b .start) (namedCells (filled (m .state .store)) step .b)
+    pub c-fits : Fits a (namedCells (filled (m .state .store)) step .c .start) (namedCells (filled (m .state .store)) step .c)
 
   pub named-fits : Fitting
   named-fits = record { a-fits = cell-fits-at _ (within .a); b-fits = cell-fits-at _ (within .b); c-fits = cell-fits-at _ (within .c) }
@@ -132,7 +134,7 @@ module _ (m : Memory) (step : Step) (places : length (m .state .store .cells) �
 
   pub step-storable : Storable (stepVector (m .state) step)
   step-storable =
-      let o = namedCells (m .state .store) step in
+      let o = namedCells (filled (m .state .store)) step in
       let sound =
       result-sound (o .a .header) (o .b .header) (o .c .header) (cellPlanes a (o .a)) (cellPlanes a (o .b)) (cellPlanes a (o .c)) (step .c)
       (sound-at (o .a) (named-fits .a-fits)) (sound-at (o .b) (named-fits .b-fits)) (sound-at (o .c) (named-fits .c-fits)) (step .op) (h .arms) in
@@ -187,7 +189,7 @@ module _ (s : State) (cs : List Vector) (p : Planes) (step : Step) (holds : Hold
   before = memory s p
 
   pub step-check : checkMemory before step ≡ checkStep (roomOf (s .arenas) p) (headersOf cs) step
-  unfolding checkStore
+  unfolding checkCells
   step-check = simp (holds .agreed) (ap (λ (hs : List Header). checkStep (roomOf (s .arenas) p) hs step) (holds-headers s cs holds))
 
   abbrev r : Vector

@@ -1,10 +1,9 @@
 -- Document 01, "Cell store" and "Numbers for what is not done": at most 320 cells, what a store and its arenas must agree on, and what adding an
 -- input does to both.
 use mathlib.Core.Path.{_≡_}
-use mathlib.Core.Bool.{Bool, true, _&&_, cond}
+use mathlib.Core.Bool.{Bool, true}
 use mathlib.Core.List.{List, [], map}
 use Prim.Native.Nat.{ℕ, _+_, min}
-use lib.Dec.{eqb, leb}
 use lib.ListN.{length, take, set, replicate}
 use Rattle.refusal.specs.Refusals.{refusalNumber}
 use Rattle.refusal.specs.Outcome.{Answer, Outcome, outcome, after, orRefuse}
@@ -12,24 +11,19 @@ use Rattle.refusal.specs.Outcome.Answer.{given, refused}
 use Rattle.words.specs.Planes.{Planes, lent, planesOf}
 use Rattle.value.specs.declared.Header.{Header}
 use Rattle.value.specs.Checks.{Vector, vector, checkVector}
-use Rattle.value.specs.Constructors.{plain}
-use Rattle.machine.specs.Machine.{Room, wordsTaken, checkCount, checkRoom}
+use Rattle.machine.specs.Machine.{Room, checkCount, checkRoom}
 use Rattle.cells.specs.declared.Cell.{Cell}
-use Rattle.cells.specs.Cells.{cellVector, cellHeaders, cellsAgree, putPlanes}
+use Rattle.cells.specs.Cells.{cellVector, cellHeaders, putPlanes}
+pub use Rattle.layout.specs.Layout.{noCell}
+use Rattle.layout.specs.Layout.{wordBehind, agree, checkCells}
 use Rattle.store.specs.declared.Store.{Store}
 use Rattle.store.specs.declared.CellAnswer.{CellAnswer}
 use Rattle.store.specs.declared.CellAnswer.the-variants as cell-answer
-use Rattle.store.specs.declared.PlaceAnswer.{PlaceAnswer}
-use Rattle.store.specs.declared.PlaceAnswer.the-variants as place-answer
 
--- the answers in the paper's numbers
+-- the answer in the paper's numbers
 abbrev pub cellAnswer : CellAnswer → Answer ℕ
 cellAnswer (cell-answer.Added n) = given n
 cellAnswer (cell-answer.Refused r) = refused (refusalNumber r)
-
-abbrev pub placeAnswer : PlaceAnswer → Answer ℕ
-placeAnswer (place-answer.At n) = given n
-placeAnswer (place-answer.Refused r) = refused (refusalNumber r)
 
 -- ---- what is stored
 
@@ -40,10 +34,6 @@ pub record State : Type 0 where
 
 abbrev pub state : Store → Planes → State
 state s a = record { store = s; arenas = a }
-
--- what stands in each place of an empty store
-abbrev pub noCell : Cell
-noCell = record { start = 0; header = plain 0 }
 
 unfoldable pub emptyStore : Store
 emptyStore = record { cells = replicate 320 noCell; count = 0 }
@@ -57,7 +47,7 @@ storeHeaders s = cellHeaders (filled s)
 
 -- the first word behind the last filled cell
 abbrev pub nextWord : Store → ℕ
-nextWord s = wordsTaken (storeHeaders s)
+nextWord s = wordBehind (filled s)
 
 -- the cells' headers and bits, in order
 abbrev pub cellsOf : State → List Vector
@@ -65,15 +55,11 @@ cellsOf s = map (cellVector (s .arenas)) (filled (s .store))
 
 -- ---- 14, store and arenas disagree
 
--- at most 320 cells, arenas of equal length, and spans from word 0 on
-unfoldable pub agrees : State → Bool
-agrees s =
-    leb (s .store .count) 320
-    && eqb (length (s .arenas .value)) (length (s .arenas .unknown))
-    && cellsAgree (s .arenas) 0 (filled (s .store))
+abbrev pub agrees : State → Bool
+agrees s = agree (s .arenas) (s .store .cells) (s .store .count)
 
-unfoldable pub checkStore : State → Answer Unit
-checkStore s = cond (agrees s) (given tt) (refused 14)
+abbrev pub checkStore : State → Answer Unit
+checkStore s = checkCells (s .arenas) (s .store .cells) (s .store .count)
 
 -- ---- a cell put behind the last
 

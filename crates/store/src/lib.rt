@@ -1,8 +1,11 @@
 // The cell store: at most 320 vectors, numbered from 0, whose words lie one behind the other in two lent arenas. The store goes in by value and
 // comes back by value, inside the answer.
 use cells::Cell;
-use cells::Operands;
 use cells::inner::work_cells;
+use layout::PlaceAnswer;
+use layout::StepAnswer;
+use layout::inner::check_cells;
+use layout::inner::place_step;
 use ops::Step;
 use refusal::Refusal;
 use refusal::Verdict;
@@ -36,18 +39,6 @@ pub struct Stored {
     pub store: Store,
 }
 
-// The word at which the next cell begins, or the refusal.
-pub enum PlaceAnswer {
-    At(usize),
-    Refused(Refusal),
-}
-
-// The word at which the cell of a step begins, the cells that the step names and its result's header, or the refusal.
-pub enum StepAnswer {
-    At(usize, Operands, Header),
-    Refused(Refusal),
-}
-
 impl Store {
     // An empty store.
     pub fn new() -> Store
@@ -74,7 +65,8 @@ impl Store {
     ) -> Stored
         ensures { λ r. ⌜ outcome (cellAnswer (r .answer)) (state (r .store) (lent (now («arena_value» .exit)) (now («arena_unknown» .exit)))) ≡ addInput (state self (lent (now («arena_value» .entry)) (now («arena_unknown» .entry)))) h (lent (now (value .entry)) (now (unknown .entry))) ⌝ }
     {
-        match inner::check_store(self, arena_value, arena_unknown) {
+        let cells = self.cells;
+        match check_cells(cells, self.count, arena_value, arena_unknown) {
             PlaceAnswer::Refused(r) => Stored {
                 answer: CellAnswer::Refused(r),
                 store: self,
@@ -121,8 +113,10 @@ impl Store {
     ) -> Stored
         ensures { λ r. ⌜ outcome (cellAnswer (r .answer)) (memory (state (r .store) (lent (now («arena_value» .exit)) (now («arena_unknown» .exit)))) (lent (now («scratch_value» .exit)) (now («scratch_unknown» .exit)))) ≡ addStep (memory (state self (lent (now («arena_value» .entry)) (now («arena_unknown» .entry)))) (lent (now («scratch_value» .entry)) (now («scratch_unknown» .entry)))) step ⌝ }
     {
-        match inner::step::place_step(
-            self,
+        let cells = self.cells;
+        match place_step(
+            cells,
+            self.count,
             step,
             arena_value,
             arena_unknown,

@@ -11,30 +11,32 @@ use Rattle.refusal.specs.Outcome.Answer.{given, refused}
 use Rattle.words.specs.Planes.{wordCount, Planes, lent}
 use Rattle.value.specs.Checks.{vector, checkVector}
 use Rattle.machine.specs.Machine.{checkCount}
-use Rattle.store.specs.Store.{State, state, storeHeaders, nextWord, checkStore, appended, checkInput, placeAnswer}
-use Rattle.store.proofs.Answers.{both-given, both-refused, count-few}
-use Rattle.store.proofs.Agreed.{store-accepted, state-agrees, next-within}
+use Rattle.layout.specs.Layout.{placeAnswer}
+use Rattle.layout.proofs.Answers.{both-given, both-refused, count-few}
+use Rattle.layout.proofs.Agreed.{cells-accepted, next-within}
+use Rattle.store.specs.Store.{State, state, storeHeaders, nextWord, checkStore, appended, checkInput}
+use Rattle.store.proofs.Held.{state-agrees}
 use Rattle.store.proofs.Inputs.{Accepted, input-accepted, plane-whole, plane-front}
 use borrow.Author.Needs.{needs}
 use Rattle.store.proofs.Store.add_input.Statement.{statement}
 use Rattle.store.proofs.Store.add_input.Tie as tie
 
-abbrev st : tie.After-check-store → tie.Start
-st k = k .before .before .before .before .before .before .before
+abbrev st : tie.After-check-cells → tie.Start
+st k = k .before .before .before .before .before .before .before .before
 
-abbrev all : tie.After-check-store → State
+abbrev all : tie.After-check-cells → State
 all k = state (st k .args .self) (lent (st k .args .arena-value .now) (st k .args .arena-unknown .now))
 
-abbrev input : tie.After-check-store → Planes
+abbrev input : tie.After-check-cells → Planes
 input k = lent (st k .args .value .now) (st k .args .unknown .now)
 
 -- what the check answers is what the call does
-abbrev by : tie.After-check-store → Answer Unit → Outcome ℕ State
+abbrev by : tie.After-check-cells → Answer Unit → Outcome ℕ State
 by k x = orRefuse x (all k) (outcome (given (all k .store .count)) (appended (vector (st k .args .h) (input k)) (all k)))
 
 -- the store's check found where the next cell begins
 module _ (t : tie.After-known-told2) where
-  abbrev k : tie.After-check-store
+  abbrev k : tie.After-check-cells
   k = t .before .before .before
 
   abbrev hs : ℕ
@@ -43,20 +45,23 @@ module _ (t : tie.After-known-told2) where
   found : (checkStore (all k) ≡ given tt) × (checkCount (storeHeaders (st k .args .self)) ≡ given tt) × (nextWord (st k .args .self) ≡ t .before .at .given .0 .0)
   found =
       both-given (checkStore (all k)) (checkCount (storeHeaders (st k .args .self))) (nextWord (st k .args .self)) (t .before .at .given .0 .0)
-      (sym (k .check-store .ensures) ∙ ap placeAnswer (t .before .at .given .1))
+      (sym (k .check-cells .ensures) ∙ ap placeAnswer (t .before .at .given .1))
 
   few : hs < 320
   few = count-few hs (found .1)
 
   within : nextWord (st k .args .self) ≤ length (all k .arenas .value)
-  within = next-within (all k) (store-accepted (all k) (found .0))
+  within =
+      let a = all k .arenas in
+      let s = st k .args .self in
+      next-within a (s .cells) (s .count) (cells-accepted a (s .cells) (s .count) (found .0))
 
 abbrev told : tie.After-word-count → tie.After-known-told2
 told w = w .before .before .before .before
 
 -- the vector is in order
 module _ (w : tie.After-word-count) where
-  abbrev begin : tie.After-check-store
+  abbrev begin : tie.After-check-cells
   begin = k (told w)
 
   ordered : checkVector (st begin .args .h) (input begin) ≡ given tt
@@ -64,7 +69,7 @@ module _ (w : tie.After-word-count) where
 
 -- nothing was refused
 module _ (e : tie.Else1) where
-  abbrev from : tie.After-check-store
+  abbrev from : tie.After-check-cells
   from = begin (e .before)
 
   passed : checkInput (all from) (st from .args .h) (input from) ≡ given tt
@@ -78,8 +83,8 @@ module _ (e : tie.Else1) where
   accepted : Accepted (all from) (st from .args .h) (input from)
   accepted = input-accepted (all from) (st from .args .h) (input from) (simp length-map at (st from .good .0 .1 .1 .0 .1 .0 .1)) passed
 
-check-store-requires : tie.Need-check-store-requires
-check-store-requires c κs = search needs
+check-cells-requires : tie.Need-check-cells-requires
+check-cells-requires c κs = search needs
 
 enum-known-r : tie.Need-enum-known-r
 enum-known-r c = search needs
@@ -132,7 +137,7 @@ returns c =
     let g = st k .args in
     let r = refusalNumber (c .before .r .given .0 .0) in
     let e : checkInput (all k) (g .h) (input k) ≡ refused r =
-    both-refused (checkStore (all k)) (checkCount (storeHeaders (g .self))) (nextWord (g .self)) r (sym (k .check-store .ensures) ∙ ap placeAnswer (c .before .r .given .1)) _ in
+    both-refused (checkStore (all k)) (checkCount (storeHeaders (g .self))) (nextWord (g .self)) r (sym (k .check-cells .ensures) ∙ ap placeAnswer (c .before .r .given .1)) _ in
     sym (ap (by k) e)
 
 same-length-3 : tie.Need-same-length-3
@@ -184,7 +189,7 @@ pub add-input-spec : {M : Type 1} → statement M
 add-input-spec =
     tie.close
     (tie.spec
-    check-store-requires
+    check-cells-requires
     enum-known-r
     enum-known-at
     check-vector-requires

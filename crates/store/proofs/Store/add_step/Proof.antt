@@ -14,18 +14,20 @@ use Rattle.ops.specs.Ops.{armsRefused, opHeader, opVector}
 use Rattle.cells.specs.declared.Operands.{Operands}
 use Rattle.cells.specs.Cells.{cellVector, cellAgrees, putPlanes}
 use Rattle.cells.proofs.Spans.{fits-cell}
-use Rattle.store.specs.Store.{state, appended}
-use Rattle.store.specs.Step.{Memory, memory, checkMemory, stepVector, namedCells, Placed, placed, stepAnswer}
-use Rattle.store.proofs.Answers.{answer-given, answer-refused}
-use Rattle.store.proofs.Agreed.{state-agrees}
-use Rattle.store.proofs.Named.{header-named, vector-named}
+use Rattle.layout.specs.Layout.{namedCells, Placed, placed, stepAnswer}
+use Rattle.layout.proofs.Answers.{answer-given, answer-refused}
+use Rattle.layout.proofs.Named.{header-named}
+use Rattle.store.specs.Store.{state, filled, appended}
+use Rattle.store.specs.Step.{Memory, memory, checkMemory, stepVector}
+use Rattle.store.proofs.Held.{state-agrees}
+use Rattle.store.proofs.Named.{vector-named}
 use Rattle.store.proofs.Steps.{Admitted, header-vector, step-admitted, named-fits, step-storable, Front, worked-front, step-added}
 use borrow.Author.Needs.{needs}
 use Rattle.store.proofs.Store.add_step.Statement.{statement}
 use Rattle.store.proofs.Store.add_step.Tie as tie
 
 abbrev st : tie.After-place-step → tie.Start
-st k = k .before .before .before .before .before .before .before
+st k = k .before .before .before .before .before .before .before .before
 
 abbrev all : tie.Start → Memory
 all s =
@@ -49,15 +51,15 @@ module _ (t : tie.After-known-told2) where
   abbrev there : Placed
   there = let g = t .before .at .given .0 in record { start = g .0; operands = g .1 .0; header = g .1 .1 .0 }
 
-  found : (checkMemory before (start .args .step) ≡ given tt) × (placed (start .args .self) (start .args .step) ≡ there)
+  found : (checkMemory before (start .args .step) ≡ given tt) × (placed (filled (start .args .self)) (start .args .step) ≡ there)
   found =
-      answer-given (checkMemory before (start .args .step)) (placed (start .args .self) (start .args .step)) there
+      answer-given (checkMemory before (start .args .step)) (placed (filled (start .args .self)) (start .args .step)) there
       (sym (t .before .before .before .place-step .ensures) ∙ ap stepAnswer (t .before .at .given .1))
 
   admitted : Admitted before (start .args .step)
   admitted = step-admitted before (start .args .step) (places start) (found .0)
 
-  read : namedCells (start .args .self) (start .args .step) ≡ there .operands
+  read : namedCells (filled (start .args .self)) (start .args .step) ≡ there .operands
   read = ap (λ (p : Placed). p .operands) (found .1)
 
   header : there .header ≡ result .header
@@ -65,7 +67,7 @@ module _ (t : tie.After-known-told2) where
 
   header-read : there .header ≡ opHeader (start .args .step .op) (there .operands .a .header) (there .operands .b .header) (there .operands .c .header)
   header-read =
-      sym (ap (λ (p : Placed). p .header) (found .1)) ∙ header-named (start .args .self) (start .args .step)
+      sym (ap (λ (p : Placed). p .header) (found .1)) ∙ header-named (filled (start .args .self)) (start .args .step)
       ∙ ap (λ (o : Operands). opHeader (start .args .step .op) (o .a .header) (o .b .header) (o .c .header)) read
 
   size : wordCount (there .header .width) ≡ wordCount (result .header .width)
@@ -164,7 +166,7 @@ returns c =
     let k = c .before .before .before in
     let s = st k in
     let r = c .before .r .given .0 .0 in
-    simp (answer-refused (checkMemory (all s) (s .args .step)) (placed (s .args .self) (s .args .step)) (refusalNumber r) (sym (k .place-step .ensures) ∙ ap stepAnswer (c .before .r .given .1)))
+    simp (answer-refused (checkMemory (all s) (s .args .step)) (placed (filled (s .args .self)) (s .args .step)) (refusalNumber r) (sym (k .place-step .ensures) ∙ ap stepAnswer (c .before .r .given .1)))
 
 same-length-3 : tie.Need-same-length-3
 same-length-3 c = search needs

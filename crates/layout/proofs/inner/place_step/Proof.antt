@@ -1,4 +1,4 @@
--- `store::inner::step::place_step`: the store's check decides, then each test on the way.
+-- `layout::inner::place_step`: the cells' check decides, then each test on the way.
 use mathlib.Core.Path.{_≡_, refl, sym, ap, _∙_}
 use mathlib.Core.Bool.{Bool, true, false, not, _||_, cond}
 use mathlib.Core.List.{List}
@@ -6,76 +6,83 @@ use Prim.Native.Nat.{ℕ, _-_, _≤_, _<_, min}
 use native.Mathlib.Omega.{arith}
 use borrow.Author.Tests.{ltb-true, ltb-false, lt-leb, lt-ltb, le-ltb}
 use lib.Dec.{leb, ltb}
-use lib.ListN.{length, getD, length-map}
+use lib.ListN.{length, getD, take}
 use lib.Seq.{getD-take}
 use Rattle.refusal.specs.Refusals.{refusalNumber}
 use Rattle.refusal.specs.Outcome.{Answer, after}
 use Rattle.refusal.specs.Outcome.Answer.{given, refused}
-use Rattle.words.specs.Planes.{wordCount, lent}
+use Rattle.words.specs.Planes.{wordCount, Planes, lent}
 use Rattle.value.specs.declared.Header.{Header}
 use Rattle.ops.specs.declared.Step.{Step}
 use Rattle.ops.specs.Ops.{armsRefused, opHeader}
 use Rattle.machine.specs.Machine.{headerAt, names, stepHeader, wordsTaken, checkCount, checkStep}
+use Rattle.cells.specs.declared.Cell.{Cell}
 use Rattle.cells.specs.declared.Operands.{Operands}
-use Rattle.cells.specs.Cells.{named}
+use Rattle.cells.specs.Cells.{cellHeaders, named}
 use Rattle.cells.proofs.Named.{Within, names-within, names-tested}
-use Rattle.store.specs.Store.{State, state, noCell, storeHeaders, nextWord, agrees, checkStore, placeAnswer}
-use Rattle.store.specs.Step.{cellNumber, namedCells, placed}
-use Rattle.store.proofs.Answers.{both-given, both-refused, count-few}
-use Rattle.store.proofs.Agreed.{store-accepted, state-agrees, headers-count, next-within}
-use Rattle.store.proofs.Named.{arms-named, header-named}
+use Rattle.layout.specs.Layout.{noCell, wordBehind, agree, checkCells, placeAnswer, cellNumber, namedCells, placed}
+use Rattle.layout.proofs.Answers.{both-given, both-refused, count-few}
+use Rattle.layout.proofs.Agreed.{cells-accepted, agree-facts, headers-count, next-within}
+use Rattle.layout.proofs.Named.{arms-named, header-named}
 use borrow.Author.Needs.{needs}
-use Rattle.store.proofs.inner.step.place_step.Statement.{statement}
-use Rattle.store.proofs.inner.step.place_step.Tie as tie
+use Rattle.layout.proofs.inner.place_step.Statement.{statement}
+use Rattle.layout.proofs.inner.place_step.Tie as tie
 
-abbrev st : tie.After-check-store → tie.Start
+abbrev st : tie.After-check-cells → tie.Start
 st k = k .before .before .before
 
-abbrev all : tie.After-check-store → State
-all k = state (st k .args .t1) (lent (st k .args .arena-value .now) (st k .args .arena-unknown .now))
+abbrev arenas : tie.Start → Planes
+arenas st = lent (st .args .arena-value .now) (st .args .arena-unknown .now)
 
-abbrev hs : tie.After-check-store → List Header
-hs k = storeHeaders (st k .args .t1)
+abbrev filled : tie.Start → List Cell
+filled st = take (st .args .count) (st .args .t1)
 
-places : (st : tie.Start) → length (st .args .t1 .cells) ≡ 320
-places st = simp length-map at (st .good .0 .1 .1 .0 .1 .0 .1)
+abbrev hs : tie.Start → List Header
+hs st = cellHeaders (filled st)
 
--- the store's check found where the next cell begins
+-- 14 for the cells
+abbrev check : tie.Start → Answer Unit
+check st = checkCells (arenas st) (st .args .t1) (st .args .count)
+
+places : (st : tie.Start) → length (st .args .t1) ≡ 320
+places st = st .good .0 .1 .0 .1
+
+-- the cells' check found where the next cell begins
 module _ (t : tie.After-known-told2) where
-  abbrev k : tie.After-check-store
-  k = t .before .before .before
+  abbrev k : tie.Start
+  k = st (t .before .before .before)
 
-  found : (checkStore (all k) ≡ given tt) × (checkCount (hs k) ≡ given tt) × (nextWord (st k .args .t1) ≡ t .before .at .given .0 .0)
+  found : (check k ≡ given tt) × (checkCount (hs k) ≡ given tt) × (wordBehind (filled k) ≡ t .before .at .given .0 .0)
   found =
-      both-given (checkStore (all k)) (checkCount (hs k)) (nextWord (st k .args .t1)) (t .before .at .given .0 .0)
-      (sym (k .check-store .ensures) ∙ ap placeAnswer (t .before .at .given .1))
+      both-given (check k) (checkCount (hs k)) (wordBehind (filled k)) (t .before .at .given .0 .0)
+      (sym (t .before .before .before .check-cells .ensures) ∙ ap placeAnswer (t .before .at .given .1))
 
-  agreed : agrees (all k) ≡ true
-  agreed = store-accepted (all k) (found .0)
+  agreed : agree (arenas k) (k .args .t1) (k .args .count) ≡ true
+  agreed = cells-accepted (arenas k) (k .args .t1) (k .args .count) (found .0)
 
-  counted : length (hs k) ≡ st k .args .t1 .count
-  counted = headers-count (st k .args .t1) (places (st k)) (state-agrees (all k) agreed .few)
+  counted : length (hs k) ≡ k .args .count
+  counted = headers-count (k .args .t1) (k .args .count) (places k) (agree-facts (arenas k) (k .args .t1) (k .args .count) agreed .few)
 
   -- not 12
   few : length (hs k) < 320
   few = count-few (length (hs k)) (found .1)
 
-  within : nextWord (st k .args .t1) ≤ length (all k .arenas .value)
-  within = next-within (all k) agreed
+  within : wordBehind (filled k) ≤ length (arenas k .value)
+  within = next-within (arenas k) (k .args .t1) (k .args .count) agreed
 
 -- what the test of the names tells
 module _ (n : tie.After-named) where
-  abbrev begin : tie.After-check-store
+  abbrev begin : tie.Start
   begin = k (n .before)
 
-  told : (b : Bool) → let m = st begin .args .t1 .count in let t = n .named .result in
-      leb m (t .a) || leb m (t .b) || leb m (t .c) ≡ b → names m (st begin .args .step) ≡ not b
+  told : (b : Bool) → let m = begin .args .count in let t = n .named .result in
+      leb m (t .a) || leb m (t .b) || leb m (t .c) ≡ b → names m (begin .args .step) ≡ not b
   told b h =
-      let m = st begin .args .t1 .count in
-      names-tested m (st begin .args .step) b (ap (λ (t : Step). leb m (t .a) || leb m (t .b) || leb m (t .c)) (sym (n .named .ensures)) ∙ h)
+      let m = begin .args .count in
+      names-tested m (begin .args .step) b (ap (λ (t : Step). leb m (t .a) || leb m (t .b) || leb m (t .c)) (sym (n .named .ensures)) ∙ h)
 
-  names-all : (b : Bool) → names (st begin .args .t1 .count) (st begin .args .step) ≡ b → names (length (hs begin)) (st begin .args .step) ≡ b
-  names-all b h = ap (λ (m : ℕ). names m (st begin .args .step)) (counted (n .before)) ∙ h
+  names-all : (b : Bool) → names (begin .args .count) (begin .args .step) ≡ b → names (length (hs begin)) (begin .args .step) ≡ b
+  names-all b h = ap (λ (m : ℕ). names m (begin .args .step)) (counted (n .before)) ∙ h
 
 -- not 11
 module _ (e : tie.Else1) where
@@ -83,34 +90,33 @@ module _ (e : tie.Else1) where
   first = e .before .before .before .before
 
   abbrev start : tie.Start
-  start = st (begin first)
+  start = begin first
 
-  filled : Within (start .args .t1 .count) (start .args .step)
-  filled = names-within (start .args .t1 .count) (start .args .step) (told first false (e .if1 .left))
+  there : Within (start .args .count) (start .args .step)
+  there = names-within (start .args .count) (start .args .step) (told first false (e .if1 .left))
 
   -- each number of the step that is read
   number : (f : Step → ℕ) → f (first .named .result) ≡ f (named (start .args .step))
   number f = ap f (first .named .ensures)
 
-  read : (i j : ℕ) → i ≡ j → j < start .args .t1 .count → getD (start .args .t1 .cells) i noCell ≡ cellNumber (start .args .t1) j
+  read : (i j : ℕ) → i ≡ j → j < start .args .count → getD (start .args .t1) i noCell ≡ cellNumber (filled start) j
   read i j e h =
-      let t = start .args .t1 in
-      ap (λ (k : ℕ). getD (t .cells) k noCell) e ∙ sym (getD-take (t .count) (t .cells) j noCell h)
+      ap (λ (k : ℕ). getD (start .args .t1) k noCell) e ∙ sym (getD-take (start .args .count) (start .args .t1) j noCell h)
 
   -- the cells that were read
   abbrev cells : Operands
   cells =
       let t = first .named .result in
-      record { a = getD (start .args .t1 .cells) (t .a) noCell; b = getD (start .args .t1 .cells) (t .b) noCell; c = getD (start .args .t1 .cells) (t .c) noCell }
+      record { a = getD (start .args .t1) (t .a) noCell; b = getD (start .args .t1) (t .b) noCell; c = getD (start .args .t1) (t .c) noCell }
 
-  cells-named : cells ≡ namedCells (start .args .t1) (start .args .step)
+  cells-named : cells ≡ namedCells (filled start) (start .args .step)
   cells-named =
       let r = first .named .result in
       let t = named (start .args .step) in
       λ i. record {
-        a = read (r .a) (t .a) (number (λ (t : Step). t .a)) (filled .a) i;
-        b = read (r .b) (t .b) (number (λ (t : Step). t .b)) (filled .b) i;
-        c = read (r .c) (t .c) (number (λ (t : Step). t .c)) (filled .c) i;
+        a = read (r .a) (t .a) (number (λ (t : Step). t .a)) (there .a) i;
+        b = read (r .b) (t .b) (number (λ (t : Step). t .b)) (there .b) i;
+        c = read (r .c) (t .c) (number (λ (t : Step). t .c)) (there .c) i;
       }
 
 -- ---- the result
@@ -123,13 +129,13 @@ module _ (a : tie.After-arms-refused) where
   from = start (second a)
 
   abbrev headers : List Header
-  headers = storeHeaders (from .args .t1)
+  headers = hs from
 
   header : a .before .before .result-header .result ≡ stepHeader headers (from .args .step)
   header =
       a .before .before .result-header .ensures
       ∙ ap (λ (o : Operands). opHeader (from .args .step .op) (o .a .header) (o .b .header) (o .c .header)) (cells-named (second a))
-      ∙ sym (header-named (from .args .t1) (from .args .step))
+      ∙ sym (header-named (filled from) (from .args .step))
 
   words : a .before .word-count .result ≡ wordCount (stepHeader headers (from .args .step) .width)
   words = a .before .word-count .ensures ∙ ap (λ (h : Header). wordCount (h .width)) header
@@ -138,7 +144,7 @@ module _ (a : tie.After-arms-refused) where
   arms : (b : Bool) → a .arms-refused .result ≡ b
       → armsRefused (from .args .step .op) (headerAt headers (from .args .step .b)) (headerAt headers (from .args .step .c)) ≡ b
   arms b e =
-      arms-named (from .args .t1) (from .args .step)
+      arms-named (filled from) (from .args .step)
       ∙ ap (λ (o : Operands). armsRefused (from .args .step .op) (o .b .header) (o .c .header)) (sym (cells-named (second a)))
       ∙ sym (a .arms-refused .ensures) ∙ e
 
@@ -181,8 +187,8 @@ module _ (e : tie.Else2) (b : Bool) where
       ∙ (λ i. cond (ltb (n - found place .2 i) (sym (words a) i) || ltb (g .args .value) (sym (words a) i) || ltb (g .args .unknown) (sym (words a) i)) (refused 13) (given tt))
       ∙ ap (λ (t : Bool). cond t (refused 13) (given tt)) h)
 
-check-store-requires : tie.Need-check-store-requires
-check-store-requires c κs = search needs
+check-cells-requires : tie.Need-check-cells-requires
+check-cells-requires c κs = search needs
 
 enum-known-r : tie.Need-enum-known-r
 enum-known-r c = search needs
@@ -202,31 +208,31 @@ cast-b c = search needs
 cast-c : tie.Need-cast-c
 cast-c c = search needs
 
-mul-t31 : tie.Need-mul-t31
-mul-t31 c = search needs
+mul-t29 : tie.Need-mul-t29
+mul-t29 c = search needs
 
-element-copy-out-t34 : tie.Need-element-copy-out-t34
-element-copy-out-t34 c =
+array-copy-out-t32 : tie.Need-array-copy-out-t32
+array-copy-out-t32 c =
     let n = first c .before in
-    omega (arith, filled c .a, number c (λ (t : Step). t .a), counted n, few n)
+    omega (arith, there c .a, number c (λ (t : Step). t .a), counted n, few n)
 
-mul-t35 : tie.Need-mul-t35
-mul-t35 c = search needs
+mul-t33 : tie.Need-mul-t33
+mul-t33 c = search needs
 
-element-copy-out-t38 : tie.Need-element-copy-out-t38
-element-copy-out-t38 c =
+array-copy-out-t36 : tie.Need-array-copy-out-t36
+array-copy-out-t36 c =
     let e = c .before in
     let n = first e .before in
-    omega (arith, filled e .b, number e (λ (t : Step). t .b), counted n, few n)
+    omega (arith, there e .b, number e (λ (t : Step). t .b), counted n, few n)
 
-mul-t39 : tie.Need-mul-t39
-mul-t39 c = search needs
+mul-t37 : tie.Need-mul-t37
+mul-t37 c = search needs
 
-element-copy-out-t42 : tie.Need-element-copy-out-t42
-element-copy-out-t42 c =
+array-copy-out-t40 : tie.Need-array-copy-out-t40
+array-copy-out-t40 c =
     let e = c .before .before in
     let n = first e .before in
-    omega (arith, filled e .c, number e (λ (t : Step). t .c), counted n, few n)
+    omega (arith, there e .c, number e (λ (t : Step). t .c), counted n, few n)
 
 result-header-requires : tie.Need-result-header-requires
 result-header-requires c κs = search needs
@@ -246,11 +252,12 @@ returns : tie.Need-returns
 unfolding checkStep
 returns c =
     let k = c .before .before .before in
-    let g = st k .args in
+    let s = st k in
+    let g = s .args in
     let r = refusalNumber (c .before .r .given .0 .0) in
-    let e : after (checkStore (all k)) (checkStep (record { arena = length (g .arena-value .now); scratch = min (g .value) (g .unknown) }) (hs k) (g .step)) ≡ refused r =
-    both-refused (checkStore (all k)) (checkCount (hs k)) (nextWord (g .t1)) r (sym (k .check-store .ensures) ∙ ap placeAnswer (c .before .r .given .1)) _ in
-    sym (ap (λ (x : Answer Unit). after x (given (placed (g .t1) (g .step)))) e)
+    let e : after (check s) (checkStep (record { arena = length (g .arena-value .now); scratch = min (g .value) (g .unknown) }) (hs s) (g .step)) ≡ refused r =
+    both-refused (check s) (checkCount (hs s)) (wordBehind (filled s)) r (sym (k .check-cells .ensures) ∙ ap placeAnswer (c .before .r .given .1)) _ in
+    sym (ap (λ (x : Answer Unit). after x (given (placed (filled s) (g .step)))) e)
 
 returns-2 : tie.Need-returns-2
 unfolding checkStep
@@ -279,19 +286,19 @@ pub place-step-spec : {M : Type 1} → statement M
 place-step-spec =
     tie.close
     (tie.spec
-    check-store-requires
+    check-cells-requires
     enum-known-r
     enum-known-at
     named-requires
     cast-a
     cast-b
     cast-c
-    mul-t31
-    element-copy-out-t34
-    mul-t35
-    element-copy-out-t38
-    mul-t39
-    element-copy-out-t42
+    mul-t29
+    array-copy-out-t32
+    mul-t33
+    array-copy-out-t36
+    mul-t37
+    array-copy-out-t40
     result-header-requires
     word-count-requires
     arms-refused-requires

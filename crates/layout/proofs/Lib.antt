@@ -1,0 +1,4 @@
+pub mod Answers
+pub mod Agreed
+pub mod Walk
+pub mod Named
