@@ -1,6 +1,5 @@
 -- Document 01, "Answer bit": the entries of equality (IEEE 1800-2017, 11.4.5), case, casez and casex equality (12.5) and wildcard equality
 -- (11.4.6), over the comparisons of `scan`.
-use lib.Ieee as Ieee
 use Rattle.bit.specs.declared.LogicBit.{LogicBit}
 use Rattle.refusal.specs.Outcome.{Answer, after}
 use Rattle.refusal.specs.Outcome.Answer.{given}
@@ -9,8 +8,7 @@ use Rattle.value.specs.declared.Header.{Header}
 use Rattle.value.specs.declared.Operand.{Operand}
 use Rattle.value.specs.declared.Operand.the-variants as operand
 use Rattle.value.specs.Checks.{vector, checkPair, checkOperand}
-use Rattle.real.specs.Real.{realOf}
-use Rattle.fold.specs.Fold.{knownBit}
+use Rattle.numeric.specs.Numeric.{equalReals}
 use Rattle.scan.specs.declared.Comparison.{Comparison}
 use Rattle.scan.specs.declared.Comparison.the-variants.{Equal}
 use Rattle.scan.specs.Compared.{compared}
@@ -19,19 +17,12 @@ use Rattle.scan.specs.Compared.{compared}
 abbrev pub comparison : Comparison → Header → Planes → Header → Planes → Answer LogicBit
 comparison op a p b q = after (checkPair a p b q) (given (compared op (vector a p) (vector b q)))
 
--- where either is a real, both count as reals, compared as IEEE 754 does
-abbrev pub equalReals : Operand → Planes → Operand → Planes → LogicBit
-equalReals a p b q = knownBit (Ieee.eq (realOf a p) (realOf b q))
-
+-- where either is a real, both count as reals
 abbrev pub equalOperands : Operand → Planes → Operand → Planes → LogicBit
 equalOperands (operand.Vector a) p (operand.Vector b) q = compared Equal (vector a p) (vector b q)
 equalOperands (operand.Vector a) p (operand.Real y) q = equalReals (operand.Vector a) p (operand.Real y) q
 equalOperands (operand.Real x) p (operand.Vector b) q = equalReals (operand.Real x) p (operand.Vector b) q
 equalOperands (operand.Real x) p (operand.Real y) q = equalReals (operand.Real x) p (operand.Real y) q
-
--- the left operand is refused first
-abbrev pub realEquality : Operand → Planes → Operand → Planes → Answer LogicBit
-realEquality a p b q = after (checkOperand a p) (after (checkOperand b q) (given (equalReals a p b q)))
 
 -- `is_equal`: the left operand is refused first
 abbrev pub isEqual : Operand → Planes → Operand → Planes → Answer LogicBit

@@ -1,17 +1,16 @@
 // Whether two operands are equal, in one bit: equality, case, casez and casex equality, and wildcard equality.
-use bit::LogicBit;
+use numeric::inner::equal_reals;
 use planes::BitAnswer;
 use refusal::Verdict;
 use scan::Comparison;
 use value::Header;
 use value::Operand;
-use value::check_operand;
 use value::check_pair;
 ghost use mathlib.Core.Path.{_≡_};
 ghost use Rattle.words.specs.Planes.{lent};
 ghost use Rattle.planes.specs.Entries.{bitAnswer};
 ghost use Rattle.scan.specs.declared.Comparison.the-variants.{CaseEqual, CasezEqual, CasexEqual, WildcardEqual};
-ghost use Rattle.compare.specs.Compare.{comparison, realEquality, isEqual};
+ghost use Rattle.compare.specs.Compare.{comparison, isEqual};
 
 // The comparison of two vectors of any widths.
 pub fn compare_vectors(
@@ -28,24 +27,6 @@ pub fn compare_vectors(
     match check_pair(a, av, au, b, bv, bu) {
         Verdict::Refused(r) => BitAnswer::Refused(r),
         Verdict::Accepted => BitAnswer::Bit(scan::inner::compare(op, a, av, au, b, bv, bu)),
-    }
-}
-
-// Equality where an operand is a real: both count as reals.
-fn equal_reals(a: Operand, av: &[u64], au: &[u64], b: Operand, bv: &[u64], bu: &[u64]) -> BitAnswer
-    ensures { λ r. ⌜ bitAnswer r ≡ realEquality a (lent (now (av .entry)) (now (au .entry))) b (lent (now (bv .entry)) (now (bu .entry))) ⌝ }
-{
-    match check_operand(a, av, au) {
-        Verdict::Refused(r) => BitAnswer::Refused(r),
-        Verdict::Accepted => match check_operand(b, bv, bu) {
-            Verdict::Refused(r) => BitAnswer::Refused(r),
-            Verdict::Accepted => {
-                if real::inner::equal_reals(a, av, au, b, bv, bu) {
-                    return BitAnswer::Bit(LogicBit::One);
-                }
-                BitAnswer::Bit(LogicBit::Zero)
-            }
-        },
     }
 }
 

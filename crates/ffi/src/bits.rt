@@ -13,7 +13,7 @@ ghost use Rattle.words.specs.Planes.{lent};
 ghost use Rattle.bit.specs.Rules.{ofCode};
 ghost use Rattle.planes.specs.Entries.{getBit, setBit, spliceBits, extractBits, maskTop};
 ghost use Rattle.value.specs.Checks.{checkVector};
-ghost use Rattle.value.specs.Constructors.{newVector, zeroVector, fromU64};
+ghost use Rattle.constructors.specs.Constructors.{newVector, zeroVector, fromU64};
 ghost use Rattle.coded.specs.Coded.{codedDone, codedBit, codedWord, codedHeader, coded, codedOutcome};
 
 // `planes::get`
@@ -88,15 +88,15 @@ pub extern "C" fn vowherunga_check_vector(h: Header, value: &[u64], unknown: &[u
     done(value::check_vector(h, value, unknown))
 }
 
-// `value::new`
+// `constructors::new`
 #[no_mangle]
 pub extern "C" fn vowherunga_new(width: u32, value: &mut [u64], unknown: &mut [u64]) -> HeaderResult
     ensures { λ r. ⌜ coded r (lent (now (value .exit)) (now (unknown .exit))) ≡ codedOutcome codedHeader (newVector width (lent (now (value .entry)) (now (unknown .entry)))) ⌝ }
 {
-    header_result(value::new(width, value, unknown))
+    header_result(constructors::new(width, value, unknown))
 }
 
-// `value::zero`
+// `constructors::zero`
 #[no_mangle]
 pub extern "C" fn vowherunga_zero(
     width: u32,
@@ -105,10 +105,10 @@ pub extern "C" fn vowherunga_zero(
 ) -> HeaderResult
     ensures { λ r. ⌜ coded r (lent (now (value .exit)) (now (unknown .exit))) ≡ codedOutcome codedHeader (zeroVector width (lent (now (value .entry)) (now (unknown .entry)))) ⌝ }
 {
-    header_result(value::zero(width, value, unknown))
+    header_result(constructors::zero(width, value, unknown))
 }
 
-// `value::from_u64`
+// `constructors::from_u64`
 #[no_mangle]
 pub extern "C" fn vowherunga_from_u64(
     val: u64,
@@ -118,5 +118,5 @@ pub extern "C" fn vowherunga_from_u64(
 ) -> HeaderResult
     ensures { λ r. ⌜ coded r (lent (now (value .exit)) (now (unknown .exit))) ≡ codedOutcome codedHeader (fromU64 val width (lent (now (value .entry)) (now (unknown .entry)))) ⌝ }
 {
-    header_result(value::from_u64(val, width, value, unknown))
+    header_result(constructors::from_u64(val, width, value, unknown))
 }

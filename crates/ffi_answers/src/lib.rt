@@ -10,7 +10,9 @@ ghost use mathlib.Core.Path.{_≡_};
 ghost use Rattle.words.specs.Planes.{lent};
 ghost use Rattle.value.specs.declared.Operand.the-variants.{Vector};
 ghost use Rattle.fold.specs.Fold.{reduceAnd, reduceOr, reduceXor};
-ghost use Rattle.reduce.specs.Reduce.{reduction, isNonzero, logicAnd, logicOr};
+ghost use Rattle.truth.specs.Truth.{isNonzero};
+ghost use Rattle.reduce.specs.Reduce.{reduction};
+ghost use Rattle.logic.specs.Logic.{logicAnd, logicOr};
 ghost use Rattle.scan.specs.declared.Comparison.the-variants.{CaseEqual, CasezEqual, CasexEqual, WildcardEqual};
 ghost use Rattle.compare.specs.Compare.{comparison, isEqual};
 ghost use Rattle.coded.specs.Coded.{codedBit, codedTruth, operandOf};
@@ -39,7 +41,7 @@ pub extern "C" fn vowherunga_reduce_xor(a: Header, value: &[u64], unknown: &[u64
     bit_result(reduce::reduce_xor(a, value, unknown))
 }
 
-// `reduce::is_nonzero`: 0 false, 1 true, 2 unknown
+// `truth::is_nonzero`: 0 false, 1 true, 2 unknown
 #[no_mangle]
 pub extern "C" fn vowherunga_is_nonzero(
     a_is_real: bool,
@@ -51,10 +53,10 @@ pub extern "C" fn vowherunga_is_nonzero(
     ensures { λ r. ⌜ r ≡ codedTruth (isNonzero (operandOf «a_is_real» a «a_real») (lent (now (value .entry)) (now (unknown .entry)))) ⌝ }
 {
     let o = operand(a_is_real, a, a_real);
-    truth_result(reduce::is_nonzero(o, value, unknown))
+    truth_result(truth::is_nonzero(o, value, unknown))
 }
 
-// `reduce::logic_and`
+// `logic::logic_and`
 #[no_mangle]
 pub extern "C" fn vowherunga_logic_and(
     a_is_real: bool,
@@ -72,10 +74,10 @@ pub extern "C" fn vowherunga_logic_and(
 {
     let x = operand(a_is_real, a, a_real);
     let y = operand(b_is_real, b, b_real);
-    bit_result(reduce::logic_and(x, av, au, y, bv, bu))
+    bit_result(logic::logic_and(x, av, au, y, bv, bu))
 }
 
-// `reduce::logic_or`
+// `logic::logic_or`
 #[no_mangle]
 pub extern "C" fn vowherunga_logic_or(
     a_is_real: bool,
@@ -93,7 +95,7 @@ pub extern "C" fn vowherunga_logic_or(
 {
     let x = operand(a_is_real, a, a_real);
     let y = operand(b_is_real, b, b_real);
-    bit_result(reduce::logic_or(x, av, au, y, bv, bu))
+    bit_result(logic::logic_or(x, av, au, y, bv, bu))
 }
 
 // `compare::is_equal`

@@ -10,7 +10,7 @@ use Rattle.refusal.specs.Outcome.{Answer}
 use Rattle.refusal.specs.Outcome.Answer.{given, refused}
 use Rattle.words.specs.Planes.{Planes}
 use Rattle.value.specs.declared.Header.{Header}
-use Rattle.value.specs.Constructors.{plain}
+use Rattle.value.specs.Checks.{plain}
 use Rattle.ops.specs.declared.Step.{Step}
 use Rattle.machine.specs.Machine.{wordsTaken, stepHeader}
 use Rattle.cells.specs.declared.Cell.{Cell}

@@ -9,8 +9,7 @@ use Rattle.refusal.specs.Outcome.{Answer, after}
 use Rattle.refusal.specs.Outcome.Answer.{given, refused}
 use Rattle.words.specs.Planes.{wordCount}
 use Rattle.value.specs.declared.Header.{Header}
-use Rattle.value.specs.Checks.{Vector}
-use Rattle.value.specs.Constructors.{plain}
+use Rattle.value.specs.Checks.{plain, Vector}
 use Rattle.ops.specs.declared.Step.{Step}
 use Rattle.ops.specs.Ops.{operands, armsRefused, opHeader, opVector}
 

@@ -17,8 +17,7 @@ use Rattle.words.specs.Planes.{bitOf, vectorOf, Plane}
 use Rattle.words.proofs.Digits.{lt-or-ge}
 use Rattle.words.proofs.Planes.{getD-tabulate, getD-tabulate-out, length-tabulate, operand}
 use Rattle.value.specs.declared.Header.{Header}
-use Rattle.value.specs.Checks.{vector}
-use Rattle.value.specs.Constructors.{plain}
+use Rattle.value.specs.Checks.{plain, vector}
 use Rattle.fold.specs.Fold.{anyOf}
 use Rattle.fold.proofs.Gather.{gather-cong}
 use Rattle.fold.proofs.Places.{any-some}

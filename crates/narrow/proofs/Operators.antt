@@ -19,8 +19,7 @@ use Rattle.words.specs.Planes.{stored, bitOf, vectorOf, planesOf, valueDigit, u
 use Rattle.words.proofs.Digits.{pack-cong, lt-or-ge}
 use Rattle.words.proofs.Planes.{getD-tabulate, getD-tabulate-out, length-tabulate, eq-tabulate, operand}
 use Rattle.value.specs.declared.Header.{Header}
-use Rattle.value.specs.Checks.{vector}
-use Rattle.value.specs.Constructors.{plain}
+use Rattle.value.specs.Checks.{plain, vector}
 use Rattle.extension.specs.Extension.{stretched, signedFor, extendsByTop, top, operandAt}
 use Rattle.lanes.specs.declared.Bitwise.{Bitwise}
 use Rattle.lanes.specs.declared.Bitwise.the-variants.{And, Or, Xor, Merge}

@@ -2,8 +2,7 @@
 use mathlib.Core.List.{[], _∷_}
 use Rattle.words.specs.declared.Word.{Word}
 use Rattle.words.specs.Planes.{Planes, lent}
-use Rattle.value.specs.Checks.{Vector, vector}
-use Rattle.value.specs.Constructors.{plain}
+use Rattle.value.specs.Checks.{plain, Vector, vector}
 
 -- the planes of a vector of at most 64 bits
 abbrev pub single : Word → Planes

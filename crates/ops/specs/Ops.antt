@@ -10,8 +10,7 @@ use Rattle.words.specs.Vector.{at}
 use Rattle.words.specs.Planes.{packed}
 use Rattle.bits.specs.Bits.{spliced}
 use Rattle.value.specs.declared.Header.{Header}
-use Rattle.value.specs.Checks.{Vector}
-use Rattle.value.specs.Constructors.{plain}
+use Rattle.value.specs.Checks.{plain, Vector}
 use Rattle.lanes.specs.declared.Bitwise.the-variants as bitwise
 use Rattle.join.specs.Joined.{joined, inverted}
 use Rattle.vectors.specs.Vectors.{resultHeader}

@@ -2,20 +2,16 @@
 use mathlib.Core.Path.{_≡_, refl}
 use mathlib.Core.Bool.{true, false}
 use mathlib.Core.List.{List, [], _∷_}
-use Prim.Native.Nat.{ℕ, _+_, _^_}
-use lib.Count.{trailingZeros}
+use Prim.Native.Nat.{ℕ}
 use lib.IntN.{pos}
-use lib.Ieee.{Float, nan, inf, fin, binary64, ofBits, ofInt, round, size, span, climb, units, odd, eq}
+use lib.Ieee.{Float, nan, inf, fin, binary64, ofBits}
 use Rattle.bit.specs.declared.LogicBit.{LogicBit}
 use Rattle.bit.specs.declared.LogicBit.the-variants.{Zero, One}
 use Rattle.refusal.specs.Outcome.{refuse, outcome}
 use Rattle.refusal.specs.Outcome.Answer.{given}
 use Rattle.words.specs.Vector.{tabulate, pack}
 use Rattle.words.specs.Planes.{Planes, lent}
-use Rattle.value.specs.declared.Operand.the-variants.{Vector, Real}
-use Rattle.value.specs.Checks.{checkOutput}
-use Rattle.value.specs.Constructors.{plain}
-use Rattle.real.specs.Real.{vectorInteger, realOf}
+use Rattle.value.specs.Checks.{plain, checkOutput}
 use Rattle.real.specs.Round.{rounded, wrapped, realVector, fromReal}
 
 -- ---- real to width 4
@@ -60,20 +56,3 @@ width-65 = refl
 
 too-wide : (x : Float) (p : Planes) → fromReal x 1048577 p ≡ refuse 1 p
 too-wide x p = refl
-
--- ---- what an operand counts as
-
--- 2 ^ 53 equals unsigned 2 ^ 53 + 1
-ties-to-even : eq (realOf (Real (fin false 1 (pos 53))) (lent [] [])) (realOf (Vector (plain 54)) (lent ((2 ^ 53 + 1) ∷ []) (0 ∷ []))) ≡ true
-unfolding eq ofInt round size span climb units odd trailingZeros vectorInteger tabulate pack
-ties-to-even = refl
-
--- a signed 1 of width 1 is -1
-signed-one : realOf (Vector (record { width = 1; «is_signed» = true; «is_fill» = false })) (lent (1 ∷ []) (0 ∷ [])) ≡ fin true 1 (pos 0)
-unfolding ofInt round size span climb units odd trailingZeros vectorInteger tabulate pack
-signed-one = refl
-
--- a fill of width 1 that holds 1 is 2 ^ 64 - 1, which is rounded to 2 ^ 64
-fill-one : realOf (Vector (record { width = 1; «is_signed» = true; «is_fill» = true })) (lent (1 ∷ []) (0 ∷ [])) ≡ fin false 1 (pos 64)
-unfolding ofInt round size span climb units odd trailingZeros vectorInteger tabulate pack
-fill-one = refl

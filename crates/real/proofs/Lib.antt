@@ -1,5 +1,4 @@
 pub mod Near
 pub mod Fields
 pub mod Wrap
-pub mod Low
 pub mod Cases

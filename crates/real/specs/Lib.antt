@@ -1,2 +1,1 @@
-pub mod Real
 pub mod Round

@@ -11,8 +11,7 @@ use Rattle.words.specs.Vector.{tabulate, bitAt}
 use Rattle.words.specs.Planes.{Planes, stored}
 use Rattle.planes.specs.Entries.{maxWidth}
 use Rattle.value.specs.declared.Header.{Header}
-use Rattle.value.specs.Checks.{written}
-use Rattle.value.specs.Constructors.{plain}
+use Rattle.value.specs.Checks.{plain, written}
 use Rattle.real.specs.declared.Scaled.{Scaled}
 
 -- ---- the nearest whole number (IEEE 1800-2017, 6.12.2)

@@ -1,4 +1,4 @@
-// A real as a vector. What a vector counts as beside a real stands in `inner`.
+// A real as a vector.
 use planes::MAX_WIDTH;
 use refusal::Refusal;
 use refusal::Verdict;
@@ -17,8 +17,6 @@ ghost use Rattle.refusal.specs.Outcome.{outcome};
 ghost use Rattle.words.specs.Planes.{wordCount, lent, planesOf};
 ghost use Rattle.value.specs.Checks.{vectorAnswer};
 ghost use Rattle.real.specs.Round.{atHalf, wholeNear, scaled, rounded, realVector, fromReal};
-
-pub mod inner;
 
 // A whole number: digits * 2^shift, below zero if negative.
 struct Scaled {

@@ -1,32 +1,12 @@
--- Document 01, "Answer bit": the entries: the reductions (IEEE 1800-2017, 11.4.9), truth, and the logical operators (11.4.7).
+-- Document 01, "Answer bit": the reductions (IEEE 1800-2017, 11.4.9).
 use mathlib.Core.List.{List}
 use Rattle.bit.specs.declared.LogicBit.{LogicBit}
-use Rattle.bit.specs.Rules.{andBit, orBit}
 use Rattle.refusal.specs.Outcome.{Answer, after}
 use Rattle.refusal.specs.Outcome.Answer.{given}
 use Rattle.words.specs.Planes.{Planes, vectorOf}
 use Rattle.value.specs.declared.Header.{Header}
-use Rattle.value.specs.declared.Operand.{Operand}
-use Rattle.value.specs.Checks.{checkVector, checkOperand}
-use Rattle.fold.specs.Fold.{truthBit}
-use Rattle.truth.specs.Truth.{operandTruth}
--- `is_nonzero`
-pub use Rattle.truth.specs.Truth.{isNonzero}
+use Rattle.value.specs.Checks.{checkVector}
 
 -- `reduce_and`, `reduce_or`, `reduce_xor`: 1 to 4, or the reduction of the bits
 abbrev pub reduction : (List LogicBit → LogicBit) → Header → Planes → Answer LogicBit
 reduction f h p = after (checkVector h p) (given (f (vectorOf (h .width) p)))
-
--- the truths of two operands, combined by the rule of single bits; the left operand is refused first
-abbrev pub combined : (LogicBit → LogicBit → LogicBit) → Operand → Planes → Operand → Planes → Answer LogicBit
-combined f a p b q =
-    after (checkOperand a p)
-    (after (checkOperand b q) (given (f (truthBit (operandTruth a p)) (truthBit (operandTruth b q)))))
-
--- `logic_and`: 0 if either is false, 1 if both are true, else x
-abbrev pub logicAnd : Operand → Planes → Operand → Planes → Answer LogicBit
-logicAnd = combined andBit
-
--- `logic_or`: 1 if either is true, 0 if both are false, else x
-abbrev pub logicOr : Operand → Planes → Operand → Planes → Answer LogicBit
-logicOr = combined orBit

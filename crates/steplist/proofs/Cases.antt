@@ -4,7 +4,7 @@ use mathlib.Core.List.{List, [], _∷_}
 use Prim.Native.Nat.{ℕ}
 use Rattle.bit.specs.declared.LogicBit.the-variants.{Zero, One, X}
 use Rattle.refusal.specs.Outcome.Answer.{given}
-use Rattle.value.specs.Constructors.{plain}
+use Rattle.value.specs.Checks.{plain}
 use Rattle.ops.specs.declared.Op.the-variants.{And, ReduceOr}
 use Rattle.text.specs.Read.{key, more, number, numberLine, named, oneOf, isBit, ofByte, bit, bits, bitsLine, many}
 use Rattle.opline.specs.OpLine.{nameLine, choiceLine, opLine}

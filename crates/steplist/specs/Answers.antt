@@ -8,8 +8,7 @@ use Rattle.refusal.specs.Outcome.Answer.{given}
 use Rattle.words.specs.Vector.{tabulate}
 use Rattle.text.specs.Read.{Got, next, many}
 use Rattle.text.specs.Answers.{bitsIn, gotAt}
-use Rattle.value.specs.Checks.{Vector}
-use Rattle.value.specs.Constructors.{plain}
+use Rattle.value.specs.Checks.{plain, Vector}
 use Rattle.ops.specs.declared.Step.{Step}
 use Rattle.ops.specs.Ops.{noStep}
 use Rattle.steplist.specs.Listing.{StepList}

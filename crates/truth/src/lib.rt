@@ -1,4 +1,4 @@
-// The truth of an operand: of a vector and of a real, each checked first.
+// The truth of an operand: of a vector and of a real, each checked first, and of either.
 use fold::Truth;
 use fold::inner::truth;
 use refusal::Refusal;
@@ -16,7 +16,7 @@ pub enum TruthAnswer {
 }
 
 // The truth of a vector.
-pub fn vector_truth(h: Header, value: &[u64], unknown: &[u64]) -> TruthAnswer
+fn vector_truth(h: Header, value: &[u64], unknown: &[u64]) -> TruthAnswer
     ensures { λ r. ⌜ truthAnswer r ≡ isNonzero (Vector h) (lent (now (value .entry)) (now (unknown .entry))) ⌝ }
 {
     let width = h.width;
@@ -27,7 +27,7 @@ pub fn vector_truth(h: Header, value: &[u64], unknown: &[u64]) -> TruthAnswer
 }
 
 // The truth of a real.
-pub fn real_truth(x: f64, value: &[u64], unknown: &[u64]) -> TruthAnswer
+fn real_truth(x: f64, value: &[u64], unknown: &[u64]) -> TruthAnswer
     ensures { λ r. ⌜ truthAnswer r ≡ isNonzero (Real x) (lent (now (value .entry)) (now (unknown .entry))) ⌝ }
 {
     match value::check_operand(Operand::Real(x), value, unknown) {
@@ -38,5 +38,15 @@ pub fn real_truth(x: f64, value: &[u64], unknown: &[u64]) -> TruthAnswer
             }
             TruthAnswer::Truth(Truth::False)
         }
+    }
+}
+
+// True on a known 1, else unknown on an unknown bit, else false; a real is true if not equal to 0.
+pub fn is_nonzero(o: Operand, value: &[u64], unknown: &[u64]) -> TruthAnswer
+    ensures { λ r. ⌜ truthAnswer r ≡ isNonzero o (lent (now (value .entry)) (now (unknown .entry))) ⌝ }
+{
+    match o {
+        Operand::Vector(h) => vector_truth(h, value, unknown),
+        Operand::Real(x) => real_truth(x, value, unknown),
     }
 }

@@ -1,6 +1,6 @@
 -- A vector with its header, the checks of an operand and of output planes, in document 01's numbers and order ("Numbers for what is not
 -- done"), and how a result is written.
-use mathlib.Core.Bool.{_&&_, cond}
+use mathlib.Core.Bool.{false, _&&_, cond}
 use mathlib.Core.List.{List}
 use Prim.Native.Nat.{ℕ}
 use lib.Dec.{eqb}
@@ -16,6 +16,10 @@ use Rattle.value.specs.declared.Operand.{Operand}
 use Rattle.value.specs.declared.Operand.the-variants as operand
 use Rattle.value.specs.declared.VectorAnswer.{VectorAnswer}
 use Rattle.value.specs.declared.VectorAnswer.the-variants as vector-answer
+
+-- unsigned, and no fill
+abbrev pub plain : ℕ → Header
+plain w = record { width = w; «is_signed» = false; «is_fill» = false }
 
 -- a header and the bits of its width
 pub record Vector : Type 0 where

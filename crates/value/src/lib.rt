@@ -1,17 +1,10 @@
-// A vector's header and the operand of equality and truth, their checks, and the constructors.
-use bit::LogicBit;
-use planes::MAX_WIDTH;
+// A vector's header and the operand of equality and truth, and their checks.
 use refusal::Refusal;
 use refusal::Verdict;
 ghost use mathlib.Core.Path.{_≡_};
-ghost use Prim.Native.Nat.{_≤_};
-ghost use mathlib.Core.List.{[], _∷_};
-ghost use lib.ListN.{getD};
-ghost use Rattle.refusal.specs.Outcome.{outcome, verdict};
-ghost use Rattle.words.specs.Planes.{fromPlanes};
+ghost use Rattle.refusal.specs.Outcome.{verdict};
 ghost use Rattle.words.specs.Planes.{lent};
-ghost use Rattle.value.specs.Checks.{checkVector, checkPair, checkOperand, checkOutput, vectorAnswer};
-ghost use Rattle.value.specs.Constructors.{clamped, plain, constructed, newVector, zeroVector, fromU64};
+ghost use Rattle.value.specs.Checks.{plain, checkVector, checkPair, checkOperand, checkOutput};
 
 #[repr(C)]
 pub struct Header {
@@ -92,13 +85,6 @@ pub fn check_output(width: u32, value: &[u64], unknown: &[u64]) -> Verdict
     Verdict::Accepted
 }
 
-// A width above the widest vector's becomes that.
-pub fn cap_width(width: u32) -> u32
-    ensures { λ r. ⌜ r ≡ clamped width ⌝ }
-{
-    if MAX_WIDTH < width { MAX_WIDTH } else { width }
-}
-
 // The header of an unsigned vector that is no fill.
 pub fn plain_header(width: u32) -> Header
     ensures { λ r. ⌜ r ≡ plain width ⌝ }
@@ -108,49 +94,4 @@ pub fn plain_header(width: u32) -> Header
         is_signed: false,
         is_fill: false,
     }
-}
-
-// A vector at a clamped width: its low bits are the `count` low bits of a number, and every further bit is `beyond`.
-fn construct(
-    width: u32,
-    value: &mut [u64],
-    unknown: &mut [u64],
-    val: u64,
-    count: u32,
-    beyond: LogicBit,
-) -> VectorAnswer
-    requires { ⌜ count ≤ 64 ⌝ }
-    ensures { λ r. ⌜ outcome (vectorAnswer r) (lent (now (value .exit)) (now (unknown .exit))) ≡ constructed width (λ i. getD (fromPlanes count (val ∷ []) (0 ∷ [])) i beyond) (lent (now (value .entry)) (now (unknown .entry))) ⌝ }
-{
-    let w = cap_width(width);
-    match check_output(w, value, unknown) {
-        Verdict::Refused(r) => VectorAnswer::Refused(r),
-        Verdict::Accepted => {
-            let low = [val];
-            let none = [0u64];
-            words::inner::extend_into(w, value, unknown, &low, &none, count, beyond);
-            VectorAnswer::Vector(plain_header(w))
-        }
-    }
-}
-
-// All x, at a clamped width.
-pub fn new(width: u32, value: &mut [u64], unknown: &mut [u64]) -> VectorAnswer
-    ensures { λ r. ⌜ outcome (vectorAnswer r) (lent (now (value .exit)) (now (unknown .exit))) ≡ newVector width (lent (now (value .entry)) (now (unknown .entry))) ⌝ }
-{
-    construct(width, value, unknown, 0, 0, LogicBit::X)
-}
-
-// All 0, at a clamped width.
-pub fn zero(width: u32, value: &mut [u64], unknown: &mut [u64]) -> VectorAnswer
-    ensures { λ r. ⌜ outcome (vectorAnswer r) (lent (now (value .exit)) (now (unknown .exit))) ≡ zeroVector width (lent (now (value .entry)) (now (unknown .entry))) ⌝ }
-{
-    construct(width, value, unknown, 0, 0, LogicBit::Zero)
-}
-
-// The bits of a number, at a clamped width.
-pub fn from_u64(val: u64, width: u32, value: &mut [u64], unknown: &mut [u64]) -> VectorAnswer
-    ensures { λ r. ⌜ outcome (vectorAnswer r) (lent (now (value .exit)) (now (unknown .exit))) ≡ fromU64 val width (lent (now (value .entry)) (now (unknown .entry))) ⌝ }
-{
-    construct(width, value, unknown, val, 64, LogicBit::Zero)
 }

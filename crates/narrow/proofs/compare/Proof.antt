@@ -1,7 +1,7 @@
 -- `narrow::compare`: the places of two vectors of 64 bits.
 use mathlib.Core.Path.{refl, _∙_}
 use mathlib.Core.Logic.{inr}
-use Rattle.value.specs.Constructors.{plain}
+use Rattle.value.specs.Checks.{plain}
 use Rattle.narrow.proofs.Comparisons.{compared-word, plain-compares}
 use borrow.Author.Needs.{needs}
 use Rattle.narrow.proofs.compare.Statement.{statement}

@@ -1,6 +1,6 @@
 -- `narrow::join`: the lanes of two vectors of 64 bits.
 use mathlib.Core.Path.{ap, _∙_}
-use Rattle.value.specs.Constructors.{plain}
+use Rattle.value.specs.Checks.{plain}
 use Rattle.narrow.specs.Narrow.{single}
 use Rattle.narrow.proofs.Operators.{joined-word, plain-narrow}
 use borrow.Author.Needs.{needs}

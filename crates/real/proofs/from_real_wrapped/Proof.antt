@@ -9,8 +9,7 @@ use Rattle.words.specs.Planes.{Planes, lent, planesOf}
 use Rattle.planes.specs.Entries.{maxWidth}
 use Rattle.planes.proofs.Checks.{exactly-accepted}
 use Rattle.value.specs.declared.Header.{Header}
-use Rattle.value.specs.Checks.{checkOutput}
-use Rattle.value.specs.Constructors.{plain}
+use Rattle.value.specs.Checks.{plain, checkOutput}
 use Rattle.real.specs.Round.{realVector, fromReal}
 use borrow.Author.Needs.{needs}
 use Rattle.real.proofs.from_real_wrapped.Statement.{statement}

@@ -1,0 +1,95 @@
+-- `constructors::construct`: refused as checked, else written whole.
+use Rattle.words.specs.Planes.{fromPlanes}
+use Rattle.words.specs.Planes.{lent}
+use Rattle.bit.specs.declared.LogicBit.{LogicBit}
+use Rattle.constructors.proofs.Constructors.{by-check}
+use mathlib.Core.List.{[], _∷_}
+use lib.ListN.{getD}
+use Rattle.value.specs.declared.Header.{Header}
+use mathlib.Core.Path.{_≡_, sym, ap, ap₂, _∙_}
+use Prim.Native.Nat.{ℕ}
+use native.Mathlib.Omega.{arith}
+use Rattle.refusal.specs.Outcome.{Answer, outcome, orRefuse, verdict}
+use Rattle.refusal.specs.Outcome.Answer.{given}
+use Rattle.words.specs.Planes.{Planes}
+use Rattle.planes.proofs.Checks.{exactly-accepted}
+use Rattle.value.specs.Checks.{checkOutput}
+use borrow.Author.Needs.{needs}
+use Rattle.constructors.proofs.construct.Statement.{statement}
+use Rattle.constructors.proofs.construct.Tie as tie
+
+cap-width-requires : tie.Need-cap-width-requires
+cap-width-requires c κs = search needs
+
+check-output-requires : tie.Need-check-output-requires
+check-output-requires c κs = search needs
+
+enum-known-r : tie.Need-enum-known-r
+enum-known-r c = search needs
+
+enum-told : tie.Need-enum-told
+enum-told c = search needs
+
+slice-aggregate-extend-into : tie.Need-slice-aggregate-extend-into
+slice-aggregate-extend-into c = search needs
+
+slice-aggregate-extend-into-2 : tie.Need-slice-aggregate-extend-into-2
+slice-aggregate-extend-into-2 c = search needs
+
+extend-into-requires : tie.Need-extend-into-requires
+unfolding checkOutput
+extend-into-requires c κs =
+    let t = c .before .before .before .before in
+    let a = t .before .before .before .before .before .before .before .before .args in
+    let l = exactly-accepted _ (lent (a .value .now) (a .unknown .now)) 5 (sym (t .before .before .check-output .ensures) ∙ ap verdict (t .enum-told .given .1)) in
+    (l, (omega arith, omega arith))
+
+plain-header-requires : tie.Need-plain-header-requires
+plain-header-requires c κs = search needs
+
+same-length : tie.Need-same-length
+same-length c = search needs
+
+same-length-2 : tie.Need-same-length-2
+same-length-2 c = search needs
+
+returns : tie.Need-returns
+returns c =
+    let t = c .before in
+    let w = t .before .before .before .before .before in
+    let a = w .before .before .before .args in
+    sym (by-check (a .width) (w .cap-width .result) _ (lent (a .value .now) (a .unknown .now)) (w .cap-width .ensures) _ (sym (t .before .before .check-output .ensures) ∙ ap verdict (t .r .given .1)))
+
+same-length-3 : tie.Need-same-length-3
+same-length-3 c = search needs
+
+same-length-4 : tie.Need-same-length-4
+same-length-4 c = search needs
+
+returns-2 : tie.Need-returns-2
+returns-2 c =
+    let x = c .before .before .before .before .before in
+    let t = x .before .before .before .before .before in
+    let w = t .before .before .before .before .before in
+    let a = w .before .before .before .args in
+    ap₂ (λ (h : Header) (p : Planes). outcome (given h) p) (c .plain-header .ensures) (x .extend-into .ensures)
+    ∙ sym (by-check (a .width) (w .cap-width .result) _ (lent (a .value .now) (a .unknown .now)) (w .cap-width .ensures) _ (sym (t .before .before .check-output .ensures) ∙ ap verdict (t .enum-told .given .1)))
+
+pub construct-spec : {M : Type 1} → statement M
+construct-spec =
+    tie.close
+    (tie.spec
+    cap-width-requires
+    check-output-requires
+    enum-known-r
+    enum-told
+    slice-aggregate-extend-into
+    slice-aggregate-extend-into-2
+    extend-into-requires
+    plain-header-requires
+    same-length
+    same-length-2
+    returns
+    same-length-3
+    same-length-4
+    returns-2)
