@@ -1,31 +1,33 @@
 -- The equality of two operands, as a form: the and of all places, each by whether its bits are the same.
 --     operand-inside  an operand that is no fill is read as it stands below its width
---     Paired          operands of equal width that are no fills
+--     Paired          operands in order of which neither is a fill, and which are of equal width if both are signed
 --     of-equal        equality is exact where its operands are paired
 use mathlib.Core.Path.{_≡_, refl, sym, _∙_, subst, ap, ap₂}
 use mathlib.Core.Bool.{Bool, true, false, not, _&&_, cond}
-use mathlib.Core.List.{List, [], _∷_, foldr}
-use Prim.Native.Nat.{ℕ, zero, suc, _<_}
+use mathlib.Core.Logic.{⊎-elim}
+use mathlib.Core.List.{foldr}
+use Prim.Native.Nat.{ℕ, zero, suc, _<_, _≤_}
 use native.Mathlib.Omega.{arith}
 use lib.Dec.{T}
-use lib.ListN.{length, getD}
+use lib.ListN.{length, getD, List·getD-eq-default}
 use Rattle.bit.specs.declared.LogicBit.{LogicBit}
 use Rattle.bit.specs.declared.LogicBit.the-variants.{Zero, One, X}
 use Rattle.bit.specs.Rules.{andBit}
 use Rattle.words.specs.Vector.{tabulate, at}
-use Rattle.words.proofs.Planes.{length-tabulate, getD-tabulate, eq-tabulate}
+use Rattle.words.proofs.Digits.{lt-or-ge}
+use Rattle.words.proofs.Planes.{length-tabulate, getD-tabulate, getD-tabulate-out, eq-tabulate}
 use Rattle.value.specs.declared.Header.{Header}
 use Rattle.value.specs.Checks.{Vector}
 use Rattle.extension.specs.declared.Operator.{Operator}
 use Rattle.extension.specs.declared.Operator.the-variants as operator
-use Rattle.extension.specs.Extension.{largerWidth, extension, operandAt, stretches}
+use Rattle.extension.specs.Extension.{largerWidth, extension, operandAt, stretches, top}
 use Rattle.fold.proofs.Folds.{and-fold}
 use Rattle.scan.specs.declared.Comparison.the-variants as comparison
 use Rattle.scan.specs.Compared.{compared}
 use Rattle.scan.proofs.Places.{compared-and}
-use Rattle.knownness.specs.Knownness.{Known, Keeps, Completes}
+use Rattle.knownness.specs.Knownness.{Known, Keeps, Completes, Pointwise, Comparable}
 use Rattle.knownness.proofs.Bits.{sameBit, exact-and, exact-same, keeps-refl}
-use Rattle.knownness.proofs.Readings.{KnownBits, Listwise, a-completion, of-operand, inside, no-bits, one-more, fold-mono, fold-known}
+use Rattle.knownness.proofs.Readings.{KnownBits, made, made-completes, a-completion, of-operand, inside, fold-mono, fold-known}
 use Rattle.knownness.proofs.Forms.{Form, Realized, Mono, Exact, of-two}
 
 pub operand-inside : (op : Operator) (a : Vector) (b : Header) (i : ℕ) → T (not (a .header .«is_fill»)) → i < length (a .bits)
@@ -81,62 +83,103 @@ equal-known a b ka kb =
     subst Known (equal-fold Zero a b a)
     (fold-known andBit One exact-and tt (tabulate n f) (tabulate-known n f (λ i. of-same i .known Zero a b a tt ka kb ka)))
 
--- operands of equal width that are no fills
+-- operands in order that an equality can compare exactly
 pub record Paired (a b : Vector) : Type 0 where
   pub left : length (a .bits) ≡ a .header .width
   pub right : length (b .bits) ≡ b .header .width
-  pub widths : a .header .width ≡ b .header .width
-  pub left-plain : T (not (a .header .«is_fill»))
-  pub right-plain : T (not (b .header .«is_fill»))
+  pub comparable : Comparable (a .header) (b .header)
 
--- the and of the first n places, each as it stands
-paired : ℕ → List LogicBit → List LogicBit → LogicBit
-paired n a b = foldr andBit One (tabulate n (λ i. sameBit (at a i) (at b i)))
+-- an operand that is no fill is read as it stands, with 0 from its width on, below its width and where it is not extended by its top bit
+operand-read : (a : Vector) (b : Header) (i : ℕ) → T (not (a .header .«is_fill»)) → T (not (b .«is_fill»))
+    → (T (a .header .«is_signed») → T (b .«is_signed») → i < length (a .bits)) → operandAt operator.Equal a b i ≡ at (a .bits) i
+operand-read a b i = go (a .header .«is_fill») (a .header .«is_signed») (b .«is_fill») (b .«is_signed»)
+  where
+    go : (f s g t : Bool) → T (not f) → T (not g) → (T s → T t → i < length (a .bits))
+        → cond (f && true) (at (a .bits) 0) (getD (a .bits) i (cond ((not (f && true) && s) && (not (g && true) && t)) (top (a .bits)) Zero)) ≡ at (a .bits) i
+    go true s g t n m h = absurd n
+    go false s true t n m h = absurd m
+    go false false false t n m h = refl
+    go false true false false n m h = refl
+    go false true false true n m h = inside (a .bits) i (top (a .bits)) (h tt tt)
 
-equal-paired : (a b : Vector) → Paired a b → compared comparison.Equal a b ≡ paired (length (a .bits)) (a .bits) (b .bits)
+-- the and of the first n places
+paired : ℕ → (f g : ℕ → LogicBit) → LogicBit
+paired n f g = foldr andBit One (tabulate n (λ i. sameBit (f i) (g i)))
+
+equal-paired : (a b : Vector) → Paired a b → compared comparison.Equal a b ≡ paired (largerWidth (a .header) (b .header)) (at (a .bits)) (at (b .bits))
 unfolding paired
 equal-paired a b h =
     let f : ℕ → LogicBit = λ i. sameAt i Zero a b a in
-    let n : ℕ = length (a .bits) in
+    let n : ℕ = largerWidth (a .header) (b .header) in
+    let p = h .comparable in
     sym (equal-fold Zero a b a)
-    ∙ ap (λ (n : ℕ). foldr andBit One (tabulate n f)) (omega (arith, h .left, h .widths))
     ∙ ap (foldr andBit One)
     (eq-tabulate n (λ i. sameBit (at (a .bits) i) (at (b .bits) i)) (tabulate n f) Zero (length-tabulate n f)
-    (λ i l. getD-tabulate n f i Zero l ∙ ap₂ sameBit (operand-inside operator.Equal a (b .header) i (h .left-plain) l)
-    (operand-inside operator.Equal b (a .header) i (h .right-plain) (omega (arith, h .left, h .right, h .widths)))))
+    (λ i l. getD-tabulate n f i Zero l ∙ ap₂ sameBit
+    (operand-read a (b .header) i (p .0) (p .1) (λ s t. let e = p .2 s t in omega (arith, h .left)))
+    (operand-read b (a .header) i (p .1) (p .0) (λ t s. let e = p .2 s t in omega (arith, h .right)))))
 
-paired-full : (a b : List LogicBit) → length b ≡ length a → (r : LogicBit) → Completes (paired (length a) a b) r
-    → (a′ : List LogicBit) × (b′ : List LogicBit) × Listwise Completes a a′ × Listwise Completes b b′ × (paired (length a) a′ b′ ≡ r)
+-- a bit before the others
+abbrev first : LogicBit → (ℕ → LogicBit) → ℕ → LogicBit
+first x f zero = x
+first x f (suc i) = f i
+
+first-completes : (f : ℕ → LogicBit) (x : LogicBit) (g : ℕ → LogicBit) → Completes (f 0) x → ((i : ℕ) → Completes (f (suc i)) (g i))
+    → (i : ℕ) → Completes (f i) (first x g i)
+first-completes f x g h t zero = h
+first-completes f x g h t (suc i) = t i
+
+paired-full : (n : ℕ) (f g : ℕ → LogicBit) (r : LogicBit) → Completes (paired n f g) r
+    → (f′ : ℕ → LogicBit) × (g′ : ℕ → LogicBit) × ((i : ℕ) → Completes (f i) (f′ i)) × ((i : ℕ) → Completes (g i) (g′ i)) × (paired n f′ g′ ≡ r)
 unfolding paired tabulate
-paired-full [] [] e r h = ([], [], no-bits, no-bits, sym (h .1 tt))
-paired-full [] (y ∷ ys) e r h = absurd (omega arith)
-paired-full (x ∷ xs) [] e r h = absurd (omega arith)
-paired-full (x ∷ xs) (y ∷ ys) e r h =
-    let w = exact-and .full X (sameBit x y) (paired (length xs) xs ys) r h in
-    let u = exact-same .full X x y (w .a′) (w .second) in
-    let v = paired-full xs ys (omega arith) (w .b′) (w .third) in (
-      u .a′ ∷ v .0,
-      u .b′ ∷ v .1,
-      one-more x (u .a′) xs (v .0) (u .second) (v .2),
-      one-more y (u .b′) ys (v .1) (u .third) (v .3),
+paired-full zero f g r h = (
+  λ i. made Zero (f i),
+  λ i. made Zero (g i),
+  λ i. made-completes Zero (f i) tt,
+  λ i. made-completes Zero (g i) tt,
+  sym (h .1 tt),
+)
+paired-full (suc n) f g r h =
+    let w = exact-and .full X (sameBit (f 0) (g 0)) (paired n (λ i. f (suc i)) (λ i. g (suc i))) r h in
+    let u = exact-same .full X (f 0) (g 0) (w .a′) (w .second) in
+    let v = paired-full n (λ i. f (suc i)) (λ i. g (suc i)) (w .b′) (w .third) in (
+      first (u .a′) (v .0),
+      first (u .b′) (v .1),
+      first-completes f (u .a′) (v .0) (u .second) (v .2),
+      first-completes g (u .b′) (v .1) (u .third) (v .3),
       ap₂ andBit (u .gives) (v .4) ∙ w .gives,
     )
+
+-- the vector with the bits f in the places of a
+abbrev withBits : Vector → (ℕ → LogicBit) → Vector
+withBits a f = record { header = a .header; bits = tabulate (length (a .bits)) f }
+
+module _ (a : Vector) (f : ℕ → LogicBit) (h : (i : ℕ) → Completes (at (a .bits) i) (f i)) where
+  -- beyond the width both are 0
+  with-at : (i : ℕ) → at (withBits a f .bits) i ≡ f i
+  with-at i = ⊎-elim
+      (λ (l : i < length (a .bits)). getD-tabulate (length (a .bits)) f i Zero l)
+      (λ (l : length (a .bits) ≤ i).
+      let e = List·getD-eq-default (a .bits) Zero l in
+      getD-tabulate-out (length (a .bits)) f i Zero l ∙ sym (h i .1 (subst Known (sym e) tt) ∙ e))
+      (lt-or-ge i (length (a .bits)))
+
+  with-completes : Pointwise Completes a (withBits a f)
+  with-completes = (refl, length-tabulate (length (a .bits)) f, λ i. subst (Completes (at (a .bits) i)) (sym (with-at i)) (h i))
 
 module _ (C : Vector → Vector → Vector → Type 0) (paired-by : (a b c : Vector) → C a b c → Paired a b) where
   equal-full : (a b c : Vector) → C a b c → (r : LogicBit) → Completes (compared comparison.Equal a b) r
       → Realized (λ t a b c. compared comparison.Equal a b) a b c r
   equal-full a b c h r k =
       let p = paired-by a b c h in
-      let n : ℕ = length (a .bits) in
-      let w = paired-full (a .bits) (b .bits) (p .right ∙ sym (p .widths) ∙ sym (p .left)) r (subst (λ (x : LogicBit). Completes x r) (equal-paired a b p) k) in
-      let u : Vector = record { header = a .header; bits = w .0 } in
-      let v : Vector = record { header = b .header; bits = w .1 } in
+      let n : ℕ = largerWidth (a .header) (b .header) in
+      let w = paired-full n (at (a .bits)) (at (b .bits)) r (subst (λ (x : LogicBit). Completes x r) (equal-paired a b p) k) in
+      let u : Vector = withBits a (w .0) in
+      let v : Vector = withBits b (w .1) in
       let q : Paired u v = record {
-        left = w .2 .0 ∙ p .left;
-        right = w .3 .0 ∙ p .right;
-        widths = p .widths;
-        left-plain = p .left-plain;
-        right-plain = p .right-plain;
+        left = length-tabulate (length (a .bits)) (w .0) ∙ p .left;
+        right = length-tabulate (length (b .bits)) (w .1) ∙ p .right;
+        comparable = p .comparable;
       } in
       let o = a-completion c in
       record {
@@ -145,10 +188,10 @@ module _ (C : Vector → Vector → Vector → Type 0) (paired-by : (a b c : Vec
         b′ = v;
         c′ = o .0;
         chosen = tt;
-        first = (refl, w .2 .0, w .2 .1);
-        second = (refl, w .3 .0, w .3 .1);
+        first = with-completes a (w .0) (w .2);
+        second = with-completes b (w .1) (w .3);
         third = o .1;
-        gives = equal-paired u v q ∙ ap (λ (n : ℕ). paired n (w .0) (w .1)) (w .2 .0) ∙ w .4;
+        gives = equal-paired u v q ∙ (λ k. paired n (λ i. with-at a (w .0) (w .2) i k) (λ i. with-at b (w .1) (w .3) i k)) ∙ w .4;
       }
 
   pub of-equal : Exact C (λ t a b c. compared comparison.Equal a b)

@@ -5,7 +5,6 @@
 --     prefix            the cells that a run starts from stay, in order
 --     at-more           what holds of all cells holds with one more
 --     step-sound, run-sound     each cell of a step and of a run has as many bits as its header says, if the cells before do
---     step-plain, run-plain     no cell of a step or of a run is a fill, if none before is
 use mathlib.Core.Path.{_≡_, refl, sym, _∙_, subst, ap}
 use mathlib.Core.Bool.{Bool, true, false, not, cond}
 use mathlib.Core.List.{List, [], _∷_, _++_, append-assoc, append-nil}
@@ -24,7 +23,7 @@ use Rattle.ops.specs.declared.Family.the-variants as family
 use Rattle.ops.specs.Ops.{familyOf, armsRefused, familyHeader, opHeader, opVector}
 use Rattle.ops.proofs.Results.{result-width}
 use Rattle.machine.specs.Machine.{Room, headersOf, noVector, cellAt, headerAt, checkCount, checkNames, checkRoom, checkScratch, stepHeader, checkStep, stepCell, Run, onward, runFrom}
-use Rattle.knownness.specs.Knownness.{AllSound, NoFill}
+use Rattle.knownness.specs.Knownness.{AllSound}
 
 -- ---- headers
 
@@ -107,50 +106,18 @@ at-more R z (x ∷ xs) [] c d e h p j = absurd (omega arith)
 at-more R z (x ∷ xs) (y ∷ ys) c d e h p zero = h zero
 at-more R z (x ∷ xs) (y ∷ ys) c d e h p (suc j) = at-more R z xs ys c d (omega arith) (λ i. h (suc i)) p j
 
-abbrev Each : (Vector → Type 0) → List Vector → Type 0
-Each P cs = (j : ℕ) → P (cellAt cs j)
+module _ (r : Room) where
+  pub step-sound : (cs : List Vector) (s : Step) (u : Unit) → checkStep r (headersOf cs) s ≡ given u → AllSound cs → AllSound (more cs s)
+  step-sound cs s u e h =
+      at-more (λ c d. length (c .bits) ≡ c .header .width) refl cs cs (stepCell cs s) (stepCell cs s) refl h
+      (result-width (cellAt cs (s .a)) (cellAt cs (s .b)) (cellAt cs (s .c)) (s .c) (h (s .a)) (h (s .b)) (h (s .c)) (s .op) (arms-accepted r cs s u e))
 
--- P is handed on by each op that does not refuse its arms
-abbrev Handed : (Vector → Type 0) → Type 0
-Handed P = (op : Op) (pos : ℕ) (a b c : Vector) → armsRefused op (b .header) (c .header) ≡ false → P a → P b → P c → P (opVector op a b c pos)
-
-module _ (P : Vector → Type 0) (z : P noVector) (handed : Handed P) (r : Room) where
-  step-all : (cs : List Vector) (s : Step) (u : Unit) → checkStep r (headersOf cs) s ≡ given u → Each P cs → Each P (more cs s)
-  step-all cs s u e h =
-      at-more (λ c d. P c) z cs cs (stepCell cs s) (stepCell cs s) refl h
-      (handed (s .op) (s .c) (cellAt cs (s .a)) (cellAt cs (s .b)) (cellAt cs (s .c)) (arms-accepted r cs s u e) (h (s .a)) (h (s .b)) (h (s .c)))
-
-  run-all : (ss : List Step) (n : ℕ) (cs : List Vector) → Each P cs → Each P (runFrom r cs n ss .cells)
+  pub run-sound : (ss : List Step) (n : ℕ) (cs : List Vector) → AllSound cs → AllSound (runFrom r cs n ss .cells)
   unfolding runFrom
-  run-all [] n cs h = h
-  run-all (s ∷ ss) n cs h = go (checkStep r (headersOf cs) s) refl (runFrom r (more cs s) (suc n) ss) (run-all ss (suc n) (more cs s))
+  run-sound [] n cs h = h
+  run-sound (s ∷ ss) n cs h = go (checkStep r (headersOf cs) s) refl (runFrom r (more cs s) (suc n) ss) (run-sound ss (suc n) (more cs s))
     where
-      go : (o : Answer Unit) → checkStep r (headersOf cs) s ≡ o → (p : Run) → (Each P (more cs s) → Each P (p .cells)) → Each P (onward o cs n p .cells)
-      go (given u) e p k = k (step-all cs s u e h)
+      go : (o : Answer Unit) → checkStep r (headersOf cs) s ≡ o → (p : Run) → (AllSound (more cs s) → AllSound (p .cells))
+          → AllSound (onward o cs n p .cells)
+      go (given u) e p k = k (step-sound cs s u e h)
       go (refused x) e p k = h
-
-sound-handed : Handed (λ c. length (c .bits) ≡ c .header .width)
-sound-handed op pos a b c e ha hb hc = result-width a b c pos ha hb hc op e
-
-plain-family : (k : Family) (a b c : Header) → T (not (a .«is_fill»)) → T (not (familyHeader k a b c .«is_fill»))
-plain-family (family.Join j) a b c h = tt
-plain-family family.Not a b c h = tt
-plain-family (family.Answer q) a b c h = tt
-plain-family family.Select a b c h = tt
-plain-family family.Insert a b c h = h
-
-plain-handed : Handed (λ c. T (not (c .header .«is_fill»)))
-plain-handed op pos a b c e ha hb hc = plain-family (familyOf op) (a .header) (b .header) (c .header) ha
-
-module _ (r : Room) (cs : List Vector) where
-  pub step-sound : (s : Step) (u : Unit) → checkStep r (headersOf cs) s ≡ given u → AllSound cs → AllSound (more cs s)
-  step-sound = step-all (λ c. length (c .bits) ≡ c .header .width) refl sound-handed r cs
-
-  pub step-plain : (s : Step) (u : Unit) → checkStep r (headersOf cs) s ≡ given u → NoFill cs → NoFill (more cs s)
-  step-plain = step-all (λ c. T (not (c .header .«is_fill»))) tt plain-handed r cs
-
-  pub run-sound : (ss : List Step) (n : ℕ) → AllSound cs → AllSound (runFrom r cs n ss .cells)
-  run-sound ss n = run-all (λ c. length (c .bits) ≡ c .header .width) refl sound-handed r ss n cs
-
-  pub run-plain : (ss : List Step) (n : ℕ) → NoFill cs → NoFill (runFrom r cs n ss .cells)
-  run-plain ss n = run-all (λ c. T (not (c .header .«is_fill»))) tt plain-handed r ss n cs

@@ -143,7 +143,7 @@ module _ (a b c : Vector) (pos i : ℕ) where
 
 -- ---- what holds of the forms
 
--- what exactness asks of the operands: those of an equality are of equal width and no fills
+-- what exactness asks of the operands of an equality
 abbrev pub Proper : Op → Vector → Vector → Vector → Type 0
 Proper op a b c = op ≡ Equal → Paired a b
 

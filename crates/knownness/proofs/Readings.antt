@@ -1,7 +1,7 @@
 -- What is read of one vector: a bit of it, a bit of it as an operand, a reduction. Each reading keeps known bits, is known of a known vector, and
 -- every completion of what is read is read of some completion of the vector.
 --     inside              a place below the width is read as it stands
---     a-completion        every vector has one
+--     made, a-completion  every bit and every vector has a completion
 --     Reading             the three properties
 --     of-bit, of-operand, of-and, of-or, of-xor, of-truth     the readings
 use mathlib.Core.Path.{_≡_, refl, sym, _∙_, subst, ap}
@@ -36,13 +36,13 @@ Listwise R a b = (length b ≡ length a) × ((i : ℕ) → R (at a i) (at b i))
 -- ---- a completion
 
 -- an unknown bit made r
-abbrev made : LogicBit → LogicBit → LogicBit
+abbrev pub made : LogicBit → LogicBit → LogicBit
 made r Zero = Zero
 made r One = One
 made r X = r
 made r Z = r
 
-made-completes : (r b : LogicBit) → Known r → Completes b (made r b)
+pub made-completes : (r b : LogicBit) → Known r → Completes b (made r b)
 made-completes r Zero k = (tt, λ h. refl)
 made-completes r One k = (tt, λ h. refl)
 made-completes r X k = (k, λ h. absurd h)

@@ -1,5 +1,5 @@
 -- What demand 3 claims of the runs of the plain machine.
---     headers-again, sound-again, plain-again     cells that are alike place by place have the same headers, and are in order together
+--     headers-again, sound-again     cells that are alike place by place have the same headers, and are in order together
 --     kept      on cells that keep known bits a run keeps them
 --     alike     the runs on inputs and on inputs that refine them end alike, and bits that are known stay
 --     exact     each step that is run is known exactly
@@ -21,11 +21,11 @@ use Rattle.value.specs.Checks.{Vector}
 use Rattle.ops.specs.declared.Step.{Step}
 use Rattle.ops.specs.Ops.{familyOf, armsRefused}
 use Rattle.machine.specs.Machine.{Room, headersOf, noVector, cellAt, checkStep, stepCell, Run, onward, runFrom, machineRun}
-use Rattle.knownness.specs.Knownness.{isExact, stepAt, AllKeep, Keeps, Refines, Pointwise, Cellwise, AllSound, NoFill, ExactStep, ExactRun}
+use Rattle.knownness.specs.Knownness.{isExact, stepAt, AllKeep, Keeps, Refines, Pointwise, Cellwise, AllSound, ExactStep, ExactRun}
 use Rattle.knownness.proofs.Bits.{refines-keeps, keeps-refl}
 use Rattle.knownness.proofs.Ops.{Accepted}
 use Rattle.knownness.proofs.Steps.{width-again, op-keeps, op-exact}
-use Rattle.knownness.proofs.Machine.{more, arms-accepted, same-ending, prefix, at-more, step-sound, step-plain}
+use Rattle.knownness.proofs.Machine.{more, arms-accepted, same-ending, prefix, at-more, step-sound}
 
 -- ---- cells that are alike place by place
 
@@ -39,9 +39,6 @@ module _ (R : LogicBit → LogicBit → Type 0) where
 
   pub sound-again : (A B : List Vector) → Cellwise R A B → AllSound A → AllSound B
   sound-again A B h s j = width-again R (cellAt A j) (cellAt B j) (h .1 j) (s j)
-
-  pub plain-again : (A B : List Vector) → Cellwise R A B → NoFill A → NoFill B
-  plain-again A B h n j = subst (λ (x : Header). T (not (x .«is_fill»))) (sym (h .1 j .0)) (n j)
 
 refined-keeps : (A B : List Vector) → Cellwise Refines A B → Cellwise Keeps A B
 refined-keeps A B h = (
@@ -62,11 +59,11 @@ accepted : (cs : List Vector) (s : Step) → AllSound cs → armsRefused (s .op)
 accepted cs s a e = record { first = a (s .a); second = a (s .b); third = a (s .c); arms = e }
 
 module _ (r : Room) where
-  step-exact : (cs : List Vector) (s : Step) (u : Unit) → checkStep r (headersOf cs) s ≡ given u → AllSound cs → NoFill cs → T (isExact (s .op))
+  step-exact : (cs : List Vector) (s : Step) (u : Unit) → checkStep r (headersOf cs) s ≡ given u → AllSound cs → T (isExact (s .op))
       → ExactStep cs s (stepCell cs s)
-  step-exact cs s u e a n k w i l v kv =
+  step-exact cs s u e a k w i l v kv =
       op-exact (s .op) (s .c) (cellAt cs (s .a)) (cellAt cs (s .b)) (cellAt cs (s .c)) (accepted cs s a (arms-accepted r cs s u e)) k i l v kv
-      (λ q. record { left = a (s .a); right = a (s .b); widths = w q; left-plain = n (s .a); right-plain = n (s .b) })
+      (λ q. record { left = a (s .a); right = a (s .b); comparable = w q })
 
   -- ---- the run
 
@@ -98,11 +95,11 @@ module _ (r : Room) where
   abbrev ExactAt : List Vector → List Step → ℕ → ℕ → Type 0
   ExactAt cells ss m k = m < length cells → T (isExact (stepAt ss k .op)) → ExactStep (take m cells) (stepAt ss k) (cellAt cells m)
 
-  exact-from : (ss : List Step) (n : ℕ) (cs : List Vector) → AllSound cs → NoFill cs → (k : ℕ) → k < length ss
+  exact-from : (ss : List Step) (n : ℕ) (cs : List Vector) → AllSound cs → (k : ℕ) → k < length ss
       → ExactAt (runFrom r cs n ss .cells) ss (length cs + k) k
   unfolding runFrom
-  exact-from [] n cs a f k h = absurd (omega arith)
-  exact-from (s ∷ ss) n cs a f k h =
+  exact-from [] n cs a k h = absurd (omega arith)
+  exact-from (s ∷ ss) n cs a k h =
       go (runFrom r (more cs s) (suc n) ss) (checkStep r (headersOf cs) s) refl k h (prefix r ss (suc n) (more cs s)) (exact-from ss (suc n) (more cs s))
     where
       len : length (more cs s) ≡ length cs + 1
@@ -110,7 +107,7 @@ module _ (r : Room) where
 
       go : (p : Run) (o : Answer Unit) → checkStep r (headersOf cs) s ≡ o → (k : ℕ) → k < length (s ∷ ss)
           → (rest : List Vector) × (p .cells ≡ more cs s ++ rest)
-          → (AllSound (more cs s) → NoFill (more cs s) → (k : ℕ) → k < length ss → ExactAt (p .cells) ss (length (more cs s) + k) k)
+          → (AllSound (more cs s) → (k : ℕ) → k < length ss → ExactAt (p .cells) ss (length (more cs s) + k) k)
           → ExactAt (onward o cs n p .cells) (s ∷ ss) (length cs + k) k
       go p (refused x) e k h t ih q l = absurd (omega arith)
       go p (given u) e zero h t ih q l =
@@ -119,10 +116,10 @@ module _ (r : Room) where
           let x : cs ≡ take (length cs + 0) (p .cells) = sym (ap (take (length cs + 0)) w ∙ take-at cs (stepCell cs s ∷ t .0) (length cs + 0) m) in
           let y : stepCell cs s ≡ cellAt (p .cells) (length cs + 0) =
           sym (ap (λ z. cellAt z (length cs + 0)) w ∙ getD-at cs (stepCell cs s) (t .0) noVector (length cs + 0) m) in
-          subst (λ z. ExactStep (take (length cs + 0) (p .cells)) s z) y (subst (λ z. ExactStep z s (stepCell cs s)) x (step-exact cs s u e a f l))
+          subst (λ z. ExactStep (take (length cs + 0) (p .cells)) s z) y (subst (λ z. ExactStep z s (stepCell cs s)) x (step-exact cs s u e a l))
       go p (given u) e (suc k) h t ih q l =
           let d : length (more cs s) + k ≡ length cs + suc k = omega (arith, len) in
-          subst (λ m. ExactAt (p .cells) ss m k) d (ih (step-sound r cs s u e a) (step-plain r cs s u e f) k (omega arith)) q l
+          subst (λ m. ExactAt (p .cells) ss m k) d (ih (step-sound r cs s u e a) k (omega arith)) q l
 
 -- the runs on A and on B end alike, and every bit known in a cell under A is the same under B
 pub record Alike (r : Room) (A B : List Vector) (ss : List Step) : Type 0 where
@@ -135,5 +132,5 @@ alike r A B ss a h = record {
   kept = λ l. kept r ss l 1 A B a (refined-keeps A B h);
 }
 
-pub exact : (r : Room) (A : List Vector) (ss : List Step) → AllSound A → NoFill A → ExactRun r A ss
-exact r A ss a f k h = exact-from r ss 1 A a f k h
+pub exact : (r : Room) (A : List Vector) (ss : List Step) → AllSound A → ExactRun r A ss
+exact r A ss a k h = exact-from r ss 1 A a k h

@@ -10,6 +10,7 @@ use lib.ListN.{length, getD, take}
 use Rattle.bit.specs.declared.LogicBit.{LogicBit}
 use Rattle.bit.specs.Rules.{known}
 use Rattle.words.specs.Vector.{at}
+use Rattle.value.specs.declared.Header.{Header}
 use Rattle.value.specs.Checks.{Vector}
 use Rattle.lanes.specs.declared.Bitwise.the-variants as bitwise
 use Rattle.extension.specs.declared.Operator.the-variants as operator
@@ -87,9 +88,6 @@ Cellwise R A B = (length B ≡ length A) × ((j : ℕ) → Pointwise R (cellAt A
 abbrev pub AllSound : List Vector → Type 0
 AllSound cs = (j : ℕ) → length (cellAt cs j .bits) ≡ cellAt cs j .header .width
 
-abbrev pub NoFill : List Vector → Type 0
-NoFill cs = (j : ℕ) → T (not (cellAt cs j .header .«is_fill»))
-
 -- ---- a step that is known exactly
 
 -- merge: what it gives is read from either of its operands, and not from its result
@@ -117,13 +115,18 @@ abbrev pub AllGive : List Vector → Step → ℕ → LogicBit → Type 0
 AllGive cs s i v = (a b c : Vector) → Pointwise Completes (cellAt cs (s .a)) a → Pointwise Completes (cellAt cs (s .b)) b
     → Pointwise Completes (cellAt cs (s .c)) c → (second : Bool) → gives (s .op) (s .c) second a b c i ≡ v
 
--- the operands of an equality are of equal width
-abbrev pub EqualWidths : List Vector → Step → Type 0
-EqualWidths cs s = s .op ≡ Equal → cellAt cs (s .a) .header .width ≡ cellAt cs (s .b) .header .width
+-- two operands of which neither is a fill, and which are of equal width if both are signed
+abbrev pub Comparable : Header → Header → Type 0
+Comparable a b = T (not (a .«is_fill»)) × T (not (b .«is_fill»)) × (T (a .«is_signed») → T (b .«is_signed») → a .width ≡ b .width)
+
+-- so are those of an equality. Without it, an equality can be x though all completions give 0: signed x0 beside signed 0100 (document 01, "Cases
+-- on either side"), whose extension is of one bit, and so a fill x beside 01
+abbrev pub EqualityComparable : List Vector → Step → Type 0
+EqualityComparable cs s = s .op ≡ Equal → Comparable (cellAt cs (s .a) .header) (cellAt cs (s .b) .header)
 
 -- each bit of the cell made is known as v exactly if all completions of the operands give v
 abbrev pub ExactStep : List Vector → Step → Vector → Type 0
-ExactStep cs s made = EqualWidths cs s → (i : ℕ) → i < length (made .bits) → (v : LogicBit) → Known v
+ExactStep cs s made = EqualityComparable cs s → (i : ℕ) → i < length (made .bits) → (v : LogicBit) → Known v
     → (at (made .bits) i ≡ v) ↔ AllGive cs s i v
 
 -- ---- a run of the plain machine

@@ -1,9 +1,10 @@
 -- Demand 3 (document 01, "The runs of demand 3"), one statement about the run of a whole list: making unknown input bits known changes no ending
 -- and, in lists without case and wildcard comparisons, no known bit; each run's cells are those of the plain machine whatever memory held; and
--- each result bit of such a step is known as v exactly when all separate completions of its operands give v, where no input is a fill and the
--- operands of an equality are of equal width.
+-- each result bit of such a step is known as v exactly when all separate completions of its operands give v. Of an equality the last is said where
+-- neither operand is a fill and both are of equal width or one is unsigned.
 use mathlib.Core.Path.{_≡_}
 use mathlib.Core.List.{List}
+use Prim.Native.Nat.{ℕ}
 use lib.ListN.{length}
 use Rattle.refusal.specs.Outcome.Answer.{given}
 use Rattle.words.specs.Planes.{Planes}
@@ -11,10 +12,10 @@ use Rattle.value.specs.Checks.{Vector}
 use Rattle.ops.specs.declared.Step.{Step}
 use Rattle.machine.specs.Machine.{machineRun}
 use Rattle.store.specs.Store.{Holds, state, emptyStore, roomOf}
-use Rattle.steplist.specs.Listing.{StepList}
-use Rattle.knownness.specs.Knownness.{Keeps, Refines, Cellwise, AllSound, NoFill, AllKeep, ExactRun}
+use Rattle.steplist.specs.Listing.{StepList, whole}
+use Rattle.knownness.specs.Knownness.{Keeps, Refines, Cellwise, AllSound, AllKeep, ExactRun}
 use Rattle.inputs.specs.Inputs.{addInputs}
-use Rattle.steps.specs.Run.{Ran, runList, emptied}
+use Rattle.steps.specs.Run.{Ran, runList, runText, emptied}
 
 abbrev pub stepList : List Vector → List Step → StepList
 stepList inputs ss = record { inputs = inputs; steps = ss }
@@ -49,12 +50,23 @@ pub record Refined (m n : LentMemory) (A B : List Vector) (ss : List Step) : Typ
   pub plain-refined : Plain n B ss
   -- every bit known in any cell under A is the same under B
   pub kept : AllKeep ss → Cellwise Keeps (machineRun (roomOf (m .arenas) (m .scratch)) A ss .cells) (machineRun (roomOf (n .arenas) (n .scratch)) B ss .cells)
-  -- where no input is a fill, each bit of each step's result is known as v exactly when all completions of the step's operands give v
-  pub exact : NoFill A → ExactRun (roomOf (m .arenas) (m .scratch)) A ss
-  pub exact-refined : NoFill A → ExactRun (roomOf (n .arenas) (n .scratch)) B ss
+  -- each bit of each step's result is known as v exactly when all completions of the step's operands give v
+  pub exact : ExactRun (roomOf (m .arenas) (m .scratch)) A ss
+  pub exact-refined : ExactRun (roomOf (n .arenas) (n .scratch)) B ss
 
--- for any memory of arenas of equal length and any other of the same lengths, accepted inputs A, and every B that refines A. The part `kept` is of
--- lists without case and wildcard comparisons, the parts `exact` of their steps; the others are of any list
+-- two memories of the same lengths; their arenas are of one length, as 14 asks of every store
+pub record EquallyLong (m n : LentMemory) : Type 0 where
+  pub level : length (m .arenas .unknown) ≡ length (m .arenas .value)
+  pub arenas : SameLengths (m .arenas) (n .arenas)
+  pub scratch : SameLengths (m .scratch) (n .scratch)
+
+-- for any memory and any other of the same lengths, accepted inputs A, and every B that refines A. The part `kept` is of lists without case and
+-- wildcard comparisons, the parts `exact` of their steps; the others are of any list
 abbrev pub Refinement : Type 0
-Refinement = (m n : LentMemory) → length (m .arenas .unknown) ≡ length (m .arenas .value) → SameLengths (m .arenas) (n .arenas) → SameLengths (m .scratch) (n .scratch)
-    → (A B : List Vector) (ss : List Step) → AllSound A → Accepted m A → Cellwise Refines A B → Refined m n A B ss
+Refinement = (m n : LentMemory) → EquallyLong m n → (A B : List Vector) (ss : List Step) → AllSound A → Accepted m A → Cellwise Refines A B → Refined m n A B ss
+
+-- the same of two texts that say such lists, and what `run` computes of them
+abbrev pub TextRefinement : Type 0
+TextRefinement = (m n : LentMemory) → EquallyLong m n → (A B : List Vector) (ss : List Step) (t u : List ℕ)
+    → whole t ≡ given (stepList A ss) → whole u ≡ given (stepList B ss) → Accepted m A → Cellwise Refines A B
+    → Refined m n A B ss × (runText (m .arenas) (m .scratch) t ≡ runOn m A ss) × (runText (n .arenas) (n .scratch) u ≡ runOn n B ss)
