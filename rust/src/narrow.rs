@@ -33,6 +33,8 @@ fn compare_planes_of_one_word(call: ComparesPlanes, (a, x): (Header, Word), (b, 
     answer.unwrap_or_else(|r| unreachable!("checked vectors are {r}"))
 }
 
+// A word form takes and gives numbers alone: a call reaches no memory, whatever they are.
+
 impl Narrow {
     /// Refused as in [`check_vector`](value::check_vector) with planes of one word: above 64 bits by 2.
     #[inline]

@@ -1,5 +1,6 @@
 //! Bits and words of a vector in two lent planes. Each call refuses, in this order, by 1 (width above [`MAX_WIDTH`]), 2 (a plane that is not
 //! exactly [`word_count`] words) and 3 (a bit set at or above the width; not for [`mask_top`]), and a refused call writes nothing.
+use crate::reduce::bit;
 use crate::{raw, LogicBit, Refusal};
 
 /// The widest vector.
@@ -25,9 +26,7 @@ pub fn word_count(width: u32) -> usize {
 /// Bit i; 0 at or above the width.
 #[inline]
 pub fn get(width: u32, value: &[u64], unknown: &[u64], i: usize) -> Result<LogicBit, Refusal> {
-    let r = unsafe { raw::vowherunga_get(width, value.as_ptr(), value.len(), unknown.as_ptr(), unknown.len(), i) };
-    Refusal::of_call(r.refusal)?;
-    Ok(LogicBit::from_code(r.bit))
+    bit(unsafe { raw::vowherunga_get(width, value.as_ptr(), value.len(), unknown.as_ptr(), unknown.len(), i) })
 }
 
 /// Makes bit i the given bit; at or above the width nothing changes.

@@ -6,7 +6,7 @@ use Rattle.value.specs.declared.Header.{Header}
 use Rattle.value.specs.Checks.{vector, checkVector, written}
 use Rattle.join.specs.Joined.{inverted}
 -- `bitwise_and`, `bitwise_or`, `bitwise_xor`, `merge_unknown`
-pub use Rattle.vectors.specs.Vectors.{bitwise}
+pub use Rattle.vectors.specs.Vectors.{joinVectors}
 
 -- width and sign kept, no fill
 abbrev pub notHeader : Header → Header

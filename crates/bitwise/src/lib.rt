@@ -11,7 +11,7 @@ ghost use Rattle.refusal.specs.Outcome.{outcome};
 ghost use Rattle.words.specs.Planes.{lent};
 ghost use Rattle.value.specs.Checks.{vectorAnswer};
 ghost use Rattle.lanes.specs.declared.Bitwise.the-variants.{And, Or, Xor, Merge};
-ghost use Rattle.bitwise.specs.Bitwise.{bitwise, bitwiseNot};
+ghost use Rattle.bitwise.specs.Bitwise.{joinVectors, bitwiseNot};
 
 // 0 at a place where either has 0, 1 where both have 1, else x.
 pub fn bitwise_and(
@@ -24,7 +24,7 @@ pub fn bitwise_and(
     ov: &mut [u64],
     ou: &mut [u64],
 ) -> VectorAnswer
-    ensures { λ r. ⌜ outcome (vectorAnswer r) (lent (now (ov .exit)) (now (ou .exit))) ≡ bitwise And a (lent (now (av .entry)) (now (au .entry))) b (lent (now (bv .entry)) (now (bu .entry))) (lent (now (ov .entry)) (now (ou .entry))) ⌝ }
+    ensures { λ r. ⌜ outcome (vectorAnswer r) (lent (now (ov .exit)) (now (ou .exit))) ≡ joinVectors And a (lent (now (av .entry)) (now (au .entry))) b (lent (now (bv .entry)) (now (bu .entry))) (lent (now (ov .entry)) (now (ou .entry))) ⌝ }
 {
     join_vectors(Bitwise::And, a, av, au, b, bv, bu, ov, ou)
 }
@@ -40,7 +40,7 @@ pub fn bitwise_or(
     ov: &mut [u64],
     ou: &mut [u64],
 ) -> VectorAnswer
-    ensures { λ r. ⌜ outcome (vectorAnswer r) (lent (now (ov .exit)) (now (ou .exit))) ≡ bitwise Or a (lent (now (av .entry)) (now (au .entry))) b (lent (now (bv .entry)) (now (bu .entry))) (lent (now (ov .entry)) (now (ou .entry))) ⌝ }
+    ensures { λ r. ⌜ outcome (vectorAnswer r) (lent (now (ov .exit)) (now (ou .exit))) ≡ joinVectors Or a (lent (now (av .entry)) (now (au .entry))) b (lent (now (bv .entry)) (now (bu .entry))) (lent (now (ov .entry)) (now (ou .entry))) ⌝ }
 {
     join_vectors(Bitwise::Or, a, av, au, b, bv, bu, ov, ou)
 }
@@ -56,7 +56,7 @@ pub fn bitwise_xor(
     ov: &mut [u64],
     ou: &mut [u64],
 ) -> VectorAnswer
-    ensures { λ r. ⌜ outcome (vectorAnswer r) (lent (now (ov .exit)) (now (ou .exit))) ≡ bitwise Xor a (lent (now (av .entry)) (now (au .entry))) b (lent (now (bv .entry)) (now (bu .entry))) (lent (now (ov .entry)) (now (ou .entry))) ⌝ }
+    ensures { λ r. ⌜ outcome (vectorAnswer r) (lent (now (ov .exit)) (now (ou .exit))) ≡ joinVectors Xor a (lent (now (av .entry)) (now (au .entry))) b (lent (now (bv .entry)) (now (bu .entry))) (lent (now (ov .entry)) (now (ou .entry))) ⌝ }
 {
     join_vectors(Bitwise::Xor, a, av, au, b, bv, bu, ov, ou)
 }
@@ -72,7 +72,7 @@ pub fn merge_unknown(
     ov: &mut [u64],
     ou: &mut [u64],
 ) -> VectorAnswer
-    ensures { λ r. ⌜ outcome (vectorAnswer r) (lent (now (ov .exit)) (now (ou .exit))) ≡ bitwise Merge a (lent (now (av .entry)) (now (au .entry))) b (lent (now (bv .entry)) (now (bu .entry))) (lent (now (ov .entry)) (now (ou .entry))) ⌝ }
+    ensures { λ r. ⌜ outcome (vectorAnswer r) (lent (now (ov .exit)) (now (ou .exit))) ≡ joinVectors Merge a (lent (now (av .entry)) (now (au .entry))) b (lent (now (bv .entry)) (now (bu .entry))) (lent (now (ov .entry)) (now (ou .entry))) ⌝ }
 {
     join_vectors(Bitwise::Merge, a, av, au, b, bv, bu, ov, ou)
 }

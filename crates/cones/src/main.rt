@@ -6,7 +6,7 @@ use stdin::read_all;
 ghost use mathlib.Core.Path.{_≡_};
 ghost use lib.ListN.{length};
 
-// Zeros, one more than a list may have bytes. The contract gives their number alone, so that no proof about `main` writes them out.
+// Zeros, one more than a list may have bytes.
 fn room() -> [u8; 65537]
     ensures { λ r. ⌜ 65537 ≡ length r ⌝ }
 {

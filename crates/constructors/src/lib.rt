@@ -1,6 +1,6 @@
 // The constructors of document 01: vectors of one bit throughout and of a number, at a clamped width.
 use bit::LogicBit;
-use planes::MAX_WIDTH;
+use planecheck::MAX_WIDTH;
 use refusal::Verdict;
 use value::VectorAnswer;
 use value::check_output;

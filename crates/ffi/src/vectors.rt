@@ -8,8 +8,8 @@ use words::Word;
 ghost use mathlib.Core.Path.{_≡_};
 ghost use Rattle.words.specs.Planes.{lent};
 ghost use Rattle.lanes.specs.declared.Bitwise.the-variants.{And, Or, Xor, Merge};
-ghost use Rattle.bitwise.specs.Bitwise.{bitwise, bitwiseNot};
-ghost use Rattle.insert.specs.Insert.{insert};
+ghost use Rattle.bitwise.specs.Bitwise.{joinVectors, bitwiseNot};
+ghost use Rattle.insert.specs.Insert.{insertBits};
 ghost use Rattle.real.specs.Round.{fromReal};
 ghost use Rattle.coded.specs.Coded.{codedHeader, codedChange, coded, codedOutcome};
 
@@ -25,7 +25,7 @@ pub extern "C" fn vowherunga_bitwise_and(
     ov: &mut [u64],
     ou: &mut [u64],
 ) -> HeaderResult
-    ensures { λ r. ⌜ coded r (lent (now (ov .exit)) (now (ou .exit))) ≡ codedOutcome codedHeader (bitwise And a (lent (now (av .entry)) (now (au .entry))) b (lent (now (bv .entry)) (now (bu .entry))) (lent (now (ov .entry)) (now (ou .entry)))) ⌝ }
+    ensures { λ r. ⌜ coded r (lent (now (ov .exit)) (now (ou .exit))) ≡ codedOutcome codedHeader (joinVectors And a (lent (now (av .entry)) (now (au .entry))) b (lent (now (bv .entry)) (now (bu .entry))) (lent (now (ov .entry)) (now (ou .entry)))) ⌝ }
 {
     header_result(bitwise::bitwise_and(a, av, au, b, bv, bu, ov, ou))
 }
@@ -42,7 +42,7 @@ pub extern "C" fn vowherunga_bitwise_or(
     ov: &mut [u64],
     ou: &mut [u64],
 ) -> HeaderResult
-    ensures { λ r. ⌜ coded r (lent (now (ov .exit)) (now (ou .exit))) ≡ codedOutcome codedHeader (bitwise Or a (lent (now (av .entry)) (now (au .entry))) b (lent (now (bv .entry)) (now (bu .entry))) (lent (now (ov .entry)) (now (ou .entry)))) ⌝ }
+    ensures { λ r. ⌜ coded r (lent (now (ov .exit)) (now (ou .exit))) ≡ codedOutcome codedHeader (joinVectors Or a (lent (now (av .entry)) (now (au .entry))) b (lent (now (bv .entry)) (now (bu .entry))) (lent (now (ov .entry)) (now (ou .entry)))) ⌝ }
 {
     header_result(bitwise::bitwise_or(a, av, au, b, bv, bu, ov, ou))
 }
@@ -59,7 +59,7 @@ pub extern "C" fn vowherunga_bitwise_xor(
     ov: &mut [u64],
     ou: &mut [u64],
 ) -> HeaderResult
-    ensures { λ r. ⌜ coded r (lent (now (ov .exit)) (now (ou .exit))) ≡ codedOutcome codedHeader (bitwise Xor a (lent (now (av .entry)) (now (au .entry))) b (lent (now (bv .entry)) (now (bu .entry))) (lent (now (ov .entry)) (now (ou .entry)))) ⌝ }
+    ensures { λ r. ⌜ coded r (lent (now (ov .exit)) (now (ou .exit))) ≡ codedOutcome codedHeader (joinVectors Xor a (lent (now (av .entry)) (now (au .entry))) b (lent (now (bv .entry)) (now (bu .entry))) (lent (now (ov .entry)) (now (ou .entry)))) ⌝ }
 {
     header_result(bitwise::bitwise_xor(a, av, au, b, bv, bu, ov, ou))
 }
@@ -76,7 +76,7 @@ pub extern "C" fn vowherunga_merge_unknown(
     ov: &mut [u64],
     ou: &mut [u64],
 ) -> HeaderResult
-    ensures { λ r. ⌜ coded r (lent (now (ov .exit)) (now (ou .exit))) ≡ codedOutcome codedHeader (bitwise Merge a (lent (now (av .entry)) (now (au .entry))) b (lent (now (bv .entry)) (now (bu .entry))) (lent (now (ov .entry)) (now (ou .entry)))) ⌝ }
+    ensures { λ r. ⌜ coded r (lent (now (ov .exit)) (now (ou .exit))) ≡ codedOutcome codedHeader (joinVectors Merge a (lent (now (av .entry)) (now (au .entry))) b (lent (now (bv .entry)) (now (bu .entry))) (lent (now (ov .entry)) (now (ou .entry)))) ⌝ }
 {
     header_result(bitwise::merge_unknown(a, av, au, b, bv, bu, ov, ou))
 }
@@ -106,7 +106,7 @@ pub extern "C" fn vowherunga_splice_bits64(
     bits_unknown: u64,
     n: usize,
 ) -> BitResult
-    ensures { λ r. ⌜ coded r (lent (now (value .exit)) (now (unknown .exit))) ≡ codedOutcome codedChange (insert a (lent (now (value .entry)) (now (unknown .entry))) pos (record { value = «bits_value»; unknown = «bits_unknown» }) n) ⌝ }
+    ensures { λ r. ⌜ coded r (lent (now (value .exit)) (now (unknown .exit))) ≡ codedOutcome codedChange (insertBits a (lent (now (value .entry)) (now (unknown .entry))) pos (record { value = «bits_value»; unknown = «bits_unknown» }) n) ⌝ }
 {
     let bits = Word {
         value: bits_value,

@@ -15,7 +15,7 @@ use lib.Pow.{shr-lt}
 use lib.ListN.{length, getD}
 use Rattle.words.specs.Vector.{bitAt}
 use Rattle.words.proofs.Digits.{bit-zero, bit-suc}
-use Rattle.fold.specs.Scanned.{gather}
+use Rattle.fold.proofs.Scanned.{gather}
 
 module _ {A : Type 0} (op : A → A → A) (e : A) where
   pub gather-cong : (n : ℕ) (f g : ℕ → A) → ((j : ℕ) → j < n → f j ≡ g j) → gather op e n f ≡ gather op e n g

@@ -21,8 +21,8 @@ use Rattle.words.proofs.Digits.{bit-and, bit-xor, bit-not, bit-ones, bit-of-zer
 use Rattle.words.proofs.Planes.{length-tabulate}
 use Rattle.fold.specs.declared.Truth.the-variants.{False, True, Unknown}
 use Rattle.fold.specs.Fold.{anyOf, isUnknown, knownBit, contains}
-use Rattle.fold.specs.Scanned.{some}
-use Rattle.fold.specs.Scanned as scanned
+use Rattle.fold.proofs.Scanned.{some}
+use Rattle.fold.proofs.Scanned as scanned
 use Rattle.fold.proofs.Gather.{gather-cong}
 use Rattle.fold.proofs.Places.{nonzero, WordPlanes, inside, outside, unknown-word}
 use Rattle.fold.proofs.Scan as scan

@@ -1,3 +1,4 @@
+pub mod Scanned
 pub mod Gather
 pub mod Places
 pub mod Scan

@@ -24,7 +24,7 @@ use Rattle.words.specs.Planes.{stored, fromPlanes}
 use Rattle.words.proofs.Digits.{bit-lt, bit-of-zero, differ-lt, lt-or-ge}
 use Rattle.words.proofs.Planes.{length-tabulate, plane-bit}
 use Rattle.fold.specs.Fold.{countOf, isUnknown, reduceXor}
-use Rattle.fold.specs.Scanned.{gather, some}
+use Rattle.fold.proofs.Scanned.{gather, some}
 use Rattle.fold.proofs.Gather.{gather-cong, gather-word, of-list, of-digits}
 use Rattle.fold.proofs.Places.{some-word, any-some, any-found, WordPlanes, unknownAt, inside, outside, unknown-word}
 

@@ -21,7 +21,7 @@ use Rattle.words.specs.Planes.{stored, planeBit, fromPlanes, Plane}
 use Rattle.words.proofs.Digits.{bit-lt, lt-or-ge}
 use Rattle.words.proofs.Planes.{getD-tabulate, getD-tabulate-out, plane-bit}
 use Rattle.fold.specs.Fold.{anyOf, isUnknown}
-use Rattle.fold.specs.Scanned.{gather, some}
+use Rattle.fold.proofs.Scanned.{gather, some}
 use Rattle.fold.proofs.Gather.{gather-cong, gather-add, gather-word, of-list, of-digits}
 
 pub some-word : (k : ℕ) (f : ℕ → Bool) → some ((k + 1) * 64) f ≡ (some (k * 64) f || some 64 (λ j. f (k * 64 + j)))

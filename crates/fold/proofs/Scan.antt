@@ -10,7 +10,7 @@ use lib.Dec.{eqb}
 use lib.ListN.{length, getD}
 use lib.Bits.{bitOr}
 use Rattle.fold.specs.Fold.{anyOf}
-use Rattle.fold.specs.Scanned.{gather, some, Scanned}
+use Rattle.fold.proofs.Scanned.{gather, some, Scanned}
 use Rattle.fold.proofs.Places.{some-word, any-some, any-found, or-nonzero}
 
 module _ {B : Type 0} (p q : B → Bool) (e d : B) (bs : List B) where

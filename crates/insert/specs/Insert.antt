@@ -32,7 +32,7 @@ abbrev pub stands : List LogicBit → ℕ → ℕ → Word → Bool
 stands bs pos n x = allBelow (spliceCount (length bs) pos n) (λ j. same (bitOf x j) (at bs (pos + j)))
 
 -- `splice_bits64`: no, if nothing is put in or the bits stand there already; else yes. The header is kept
-abbrev pub insert : Header → Planes → ℕ → Word → ℕ → Outcome Bool Planes
-insert a p pos x n =
+abbrev pub insertBits : Header → Planes → ℕ → Word → ℕ → Outcome Bool Planes
+insertBits a p pos x n =
     orRefuse (checkVector a p) p
     (outcome (given (not (stands (vector a p .bits) pos n x))) (planesOf (spliced (vector a p .bits) pos n x)))

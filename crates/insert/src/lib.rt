@@ -7,7 +7,7 @@ use words::Word;
 ghost use mathlib.Core.Path.{_≡_};
 ghost use Rattle.refusal.specs.Outcome.{outcome};
 ghost use Rattle.words.specs.Planes.{lent};
-ghost use Rattle.insert.specs.Insert.{insert, changeAnswer};
+ghost use Rattle.insert.specs.Insert.{insertBits, changeAnswer};
 
 pub mod inner;
 
@@ -26,7 +26,7 @@ pub fn splice_bits64(
     bits: Word,
     n: usize,
 ) -> ChangeAnswer
-    ensures { λ r. ⌜ outcome (changeAnswer r) (lent (now (value .exit)) (now (unknown .exit))) ≡ insert a (lent (now (value .entry)) (now (unknown .entry))) pos bits n ⌝ }
+    ensures { λ r. ⌜ outcome (changeAnswer r) (lent (now (value .exit)) (now (unknown .exit))) ≡ insertBits a (lent (now (value .entry)) (now (unknown .entry))) pos bits n ⌝ }
 {
     match check_vector(a, value, unknown) {
         Verdict::Refused(r) => ChangeAnswer::Refused(r),

@@ -9,7 +9,7 @@ use native.Mathlib.Omega.{arith}
 use lib.ListN.{length, getD}
 use Rattle.bit.specs.declared.LogicBit.{LogicBit}
 use Rattle.words.specs.declared.Word.{Word}
-use Rattle.words.specs.Vector.{at, tabulate, Written}
+use Rattle.words.specs.Vector.{at, tabulate, FilledTo}
 use Rattle.words.specs.Planes.{valueDigit, unknownDigit, wordCount, fromPlanes, wordOf, wordAt, Planes, lent, planesOf, wordBy}
 use Rattle.words.proofs.Planes.{length-tabulate}
 use Rattle.words.proofs.Fill.{plane-done}
@@ -50,8 +50,8 @@ module _ (op : Bitwise) (a b : Header) (av au bv bu : List ℕ) (t : Operator) (
       (λ i. opBit op (operandAt (operator op) (vector a (lent av au)) b i) (operandAt (operator op) (vector b (lent bv bu)) a i))) hw
 
   -- the planes of the result, once every word is written
-  pub all-written : (k : ℕ) (ov ou : List ℕ) → Written 0 (wordOf valueDigit (at (joinedOver op w x (lent av au) y (lent bv bu)))) (wordCount w) k ov
-      → Written 0 (wordOf unknownDigit (at (joinedOver op w x (lent av au) y (lent bv bu)))) (wordCount w) k ou → wordCount w ≤ k
+  pub all-written : (k : ℕ) (ov ou : List ℕ) → FilledTo 0 (wordOf valueDigit (at (joinedOver op w x (lent av au) y (lent bv bu)))) (wordCount w) k ov
+      → FilledTo 0 (wordOf unknownDigit (at (joinedOver op w x (lent av au) y (lent bv bu)))) (wordCount w) k ou → wordCount w ≤ k
       → lent ov ou ≡ planesOf (joined op (vector a (lent av au)) (vector b (lent bv bu)))
   all-written k ov ou hv hu l =
       let R = joinedOver op w x (lent av au) y (lent bv bu) in
@@ -69,10 +69,10 @@ module _ (op : Bitwise) (a b : Header) (av au bv bu : List ℕ) (t : Operator) (
       (omega (arith, left-narrow))
 
   module _ (N M n : ℕ) (out : List ℕ) (long : length out ≡ M) (hn : n ≡ min (x .width) (y .width) / 64) where
-    pub value-written : Written 0 (λ k. laneWord (opBit op) (wordBy (getD av k 0) (getD au k 0)) (wordBy (getD bv k 0) (getD bu k 0)) .value) N n out
-        → Written 0 (wordOf valueDigit (at (joinedOver op w x (lent av au) y (lent bv bu)))) M n out
+    pub value-written : FilledTo 0 (λ k. laneWord (opBit op) (wordBy (getD av k 0) (getD au k 0)) (wordBy (getD bv k 0) (getD bu k 0)) .value) N n out
+        → FilledTo 0 (wordOf valueDigit (at (joinedOver op w x (lent av au) y (lent bv bu)))) M n out
     value-written h = record { long = long; upto = λ i l. h .upto i l ∙ ap (λ (z : Word). z .value) (direct-word i (rw hn at l)) }
 
-    pub unknown-written : Written 0 (λ k. laneWord (opBit op) (wordBy (getD av k 0) (getD au k 0)) (wordBy (getD bv k 0) (getD bu k 0)) .unknown) N n out
-        → Written 0 (wordOf unknownDigit (at (joinedOver op w x (lent av au) y (lent bv bu)))) M n out
+    pub unknown-written : FilledTo 0 (λ k. laneWord (opBit op) (wordBy (getD av k 0) (getD au k 0)) (wordBy (getD bv k 0) (getD bu k 0)) .unknown) N n out
+        → FilledTo 0 (wordOf unknownDigit (at (joinedOver op w x (lent av au) y (lent bv bu)))) M n out
     unknown-written h = record { long = long; upto = λ i l. h .upto i l ∙ ap (λ (z : Word). z .unknown) (direct-word i (rw hn at l)) }

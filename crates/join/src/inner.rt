@@ -12,7 +12,7 @@ use words::inner::operand_word;
 ghost use mathlib.Core.Path.{_≡_};
 ghost use Prim.Native.Nat.{_≤_, max};
 ghost use lib.ListN.{length, getD};
-ghost use Rattle.words.specs.Vector.{Written};
+ghost use Rattle.words.specs.Vector.{FilledTo};
 ghost use Rattle.words.specs.Planes.{wordCount, fromPlanes, lent, planesOf, Plane, wordBy};
 ghost use Rattle.value.specs.Checks.{vector};
 ghost use Rattle.lanes.specs.Lanes.{opBit, laneWord};
@@ -33,8 +33,8 @@ fn join_words(
     requires { ⌜ (n ≤ length (now av)) × (n ≤ length (now au)) ⌝ }
     requires { ⌜ (n ≤ length (now bv)) × (n ≤ length (now bu)) ⌝ }
     requires { ⌜ (n ≤ length (now ov)) × (n ≤ length (now ou)) ⌝ }
-    ensures { λ _. ⌜ Written 0 (λ k. laneWord (opBit op) (wordBy (getD (now (av .entry)) k 0) (getD (now (au .entry)) k 0)) (wordBy (getD (now (bv .entry)) k 0) (getD (now (bu .entry)) k 0)) .value) (length (now (ov .entry))) n (now (ov .exit)) ⌝ }
-    ensures { λ _. ⌜ Written 0 (λ k. laneWord (opBit op) (wordBy (getD (now (av .entry)) k 0) (getD (now (au .entry)) k 0)) (wordBy (getD (now (bv .entry)) k 0) (getD (now (bu .entry)) k 0)) .unknown) (length (now (ou .entry))) n (now (ou .exit)) ⌝ }
+    ensures { λ _. ⌜ FilledTo 0 (λ k. laneWord (opBit op) (wordBy (getD (now (av .entry)) k 0) (getD (now (au .entry)) k 0)) (wordBy (getD (now (bv .entry)) k 0) (getD (now (bu .entry)) k 0)) .value) (length (now (ov .entry))) n (now (ov .exit)) ⌝ }
+    ensures { λ _. ⌜ FilledTo 0 (λ k. laneWord (opBit op) (wordBy (getD (now (av .entry)) k 0) (getD (now (au .entry)) k 0)) (wordBy (getD (now (bv .entry)) k 0) (getD (now (bu .entry)) k 0)) .unknown) (length (now (ou .entry))) n (now (ou .exit)) ⌝ }
 {
     let mut k = 0;
     while k < n {
@@ -67,8 +67,8 @@ fn join_whole(
     requires { ⌜ (n ≤ length (now av)) × (n ≤ length (now au)) ⌝ }
     requires { ⌜ (n ≤ length (now bv)) × (n ≤ length (now bu)) ⌝ }
     requires { ⌜ (n ≤ length (now ov)) × (n ≤ length (now ou)) ⌝ }
-    ensures { λ _. ⌜ Written 0 (λ k. laneWord (opBit op) (wordBy (getD (now (av .entry)) k 0) (getD (now (au .entry)) k 0)) (wordBy (getD (now (bv .entry)) k 0) (getD (now (bu .entry)) k 0)) .value) (length (now (ov .entry))) n (now (ov .exit)) ⌝ }
-    ensures { λ _. ⌜ Written 0 (λ k. laneWord (opBit op) (wordBy (getD (now (av .entry)) k 0) (getD (now (au .entry)) k 0)) (wordBy (getD (now (bv .entry)) k 0) (getD (now (bu .entry)) k 0)) .unknown) (length (now (ou .entry))) n (now (ou .exit)) ⌝ }
+    ensures { λ _. ⌜ FilledTo 0 (λ k. laneWord (opBit op) (wordBy (getD (now (av .entry)) k 0) (getD (now (au .entry)) k 0)) (wordBy (getD (now (bv .entry)) k 0) (getD (now (bu .entry)) k 0)) .value) (length (now (ov .entry))) n (now (ov .exit)) ⌝ }
+    ensures { λ _. ⌜ FilledTo 0 (λ k. laneWord (opBit op) (wordBy (getD (now (av .entry)) k 0) (getD (now (au .entry)) k 0)) (wordBy (getD (now (bv .entry)) k 0) (getD (now (bu .entry)) k 0)) .unknown) (length (now (ou .entry))) n (now (ou .exit)) ⌝ }
 {
     match op {
         Bitwise::And => join_words(Bitwise::And, av, au, bv, bu, ov, ou, n),

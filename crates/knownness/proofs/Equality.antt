@@ -28,7 +28,7 @@ use Rattle.scan.proofs.Places.{compared-and}
 use Rattle.knownness.specs.Knownness.{Known, Keeps, Completes, Pointwise, Comparable}
 use Rattle.knownness.proofs.Bits.{sameBit, exact-and, exact-same, keeps-refl}
 use Rattle.knownness.proofs.Readings.{KnownBits, made, made-completes, a-completion, of-operand, inside, fold-mono, fold-known}
-use Rattle.knownness.proofs.Forms.{Form, Realized, Mono, Exact, of-two}
+use Rattle.knownness.proofs.Forms.{Form, Realized, Mono, ExactForm, of-two}
 
 pub operand-inside : (op : Operator) (a : Vector) (b : Header) (i : ℕ) → T (not (a .header .«is_fill»)) → i < length (a .bits)
     → operandAt op a b i ≡ at (a .bits) i
@@ -42,7 +42,7 @@ operand-inside op a b i n l = go (a .header .«is_fill») n ∙ inside (a .bits)
 abbrev sameAt : ℕ → Form
 sameAt i t a b c = sameBit (operandAt operator.Equal a (b .header) i) (operandAt operator.Equal b (a .header) i)
 
-of-same : (i : ℕ) → Exact (λ a b c. Unit) (sameAt i)
+of-same : (i : ℕ) → ExactForm (λ a b c. Unit) (sameAt i)
 of-same i =
     of-two (λ a b c. Unit) (λ s t. sameBit) (λ s. exact-same) (λ s a. operandAt operator.Equal a (s .right) i) (λ s b. operandAt operator.Equal b (s .left) i)
     (λ s. of-operand operator.Equal (s .right) i) (λ s. of-operand operator.Equal (s .left) i)
@@ -194,5 +194,5 @@ module _ (C : Vector → Vector → Vector → Type 0) (paired-by : (a b c : Vec
         gives = equal-paired u v q ∙ (λ k. paired n (λ i. with-at a (w .0) (w .2) i k) (λ i. with-at b (w .1) (w .3) i k)) ∙ w .4;
       }
 
-  pub of-equal : Exact C (λ t a b c. compared comparison.Equal a b)
+  pub of-equal : ExactForm C (λ t a b c. compared comparison.Equal a b)
   of-equal = record { mono = equal-mono; known = λ t a b c kt ka kb kc. equal-known a b ka kb; full = equal-full }

@@ -1,6 +1,6 @@
 -- One place of a result, as a rule of what is read of the operands. A form also has the bit t, which chooses between the arms of a merge: unknown
 -- in the result itself, known in what a completion gives.
---     Exact           a form that keeps known bits, is known of known operands, and whose completions come from completions of its operands
+--     ExactForm           a form that keeps known bits, is known of known operands, and whose completions come from completions of its operands
 --     of-two          by a rule of t and of a reading of each of a and b
 --     of-three        by a rule of a reading of each of a, b and c
 use mathlib.Core.Path.{_≡_, sym, _∙_, subst, ap, ap₂}
@@ -34,7 +34,7 @@ Mono F = (t t′ : LogicBit) (a a′ b b′ c c′ : Vector) → Keeps t t′ �
     → Keeps (F t a b c) (F t′ a′ b′ c′)
 
 -- the last for operands of which C holds
-pub record Exact (C : Vector → Vector → Vector → Type 0) (F : Form) : Type 0 where
+pub record ExactForm (C : Vector → Vector → Vector → Type 0) (F : Form) : Type 0 where
   pub mono : Mono F
   pub known : (t : LogicBit) (a b c : Vector) → Known t → KnownBits (a .bits) → KnownBits (b .bits) → KnownBits (c .bits) → Known (F t a b c)
   pub full : (a b c : Vector) → C a b c → (r : LogicBit) → Completes (F X a b c) r → Realized F a b c r
@@ -62,7 +62,7 @@ module _ (C : Vector → Vector → Vector → Type 0) (g : Frame → Rule) (G :
   abbrev by-frame : Frame → Form
   by-frame s t a b c = g s t (P s a) (Q s b)
 
-  pub of-two : Exact C two
+  pub of-two : ExactForm C two
   of-two = record {
     mono = λ t t′ a a′ b b′ c c′ ht ha hb hc. let s : Frame = frame a b in
         subst (λ (x : LogicBit). Keeps (two t a b c) x) (ap (λ (s : Frame). by-frame s t′ a′ b′ c′) (frame-same Keeps a a′ b b′ ha hb))
@@ -91,7 +91,7 @@ module _ (C : Vector → Vector → Vector → Type 0) (g : Frame → Rule) (G :
 -- ---- a rule of a, b and c
 
 module _ (C : Vector → Vector → Vector → Type 0) (g : Rule) (G : ExactRule g) (O P Q : Vector → LogicBit) (o : Reading O) (p : Reading P) (q : Reading Q) where
-  pub of-three : Exact C (λ t a b c. g (O a) (P b) (Q c))
+  pub of-three : ExactForm C (λ t a b c. g (O a) (P b) (Q c))
   of-three = record {
     mono = λ t t′ a a′ b b′ c c′ ht ha hb hc. G .mono (O a) (O a′) (P b) (P b′) (Q c) (Q c′) (o .mono a a′ ha) (p .mono b b′ hb) (q .mono c c′ hc);
     known = λ t a b c kt ka kb kc. G .known (O a) (P b) (Q c) (o .known a ka) (p .known b kb) (q .known c kc);

@@ -41,7 +41,7 @@ use Rattle.ops.proofs.Results.{arms-alike}
 use Rattle.knownness.specs.Knownness.{keepsKnown, isExact, merges, armAt}
 use Rattle.knownness.proofs.Bits.{Rule, ExactRule, selectBit, exact-and, exact-or, exact-xor, exact-not, exact-left, exact-right, exact-select}
 use Rattle.knownness.proofs.Readings.{Reading, of-bit, of-operand, of-and, of-or, of-xor, of-truth}
-use Rattle.knownness.proofs.Forms.{Form, Mono, Exact, Frame, of-two, of-three}
+use Rattle.knownness.proofs.Forms.{Form, Mono, ExactForm, Frame, of-two, of-three}
 use Rattle.knownness.proofs.Equality.{operand-inside, Paired, of-equal}
 
 -- ---- the forms
@@ -149,9 +149,9 @@ Proper op a b c = op ≡ Equal → Paired a b
 
 pub record Law (op : Op) (F : Form) : Type 0 where
   pub mono : Mono F
-  pub exact : T (isExact op) → Exact (Proper op) F
+  pub exact : T (isExact op) → ExactForm (Proper op) F
 
-exactly : (op : Op) (F : Form) → Exact (Proper op) F → Law op F
+exactly : (op : Op) (F : Form) → ExactForm (Proper op) F → Law op F
 exactly op F e = record { mono = e .mono; exact = λ _. e }
 
 exact-join : (j : Bitwise) → ExactRule (joinRule j)

@@ -19,7 +19,7 @@ use Rattle.ops.specs.Ops.{familyOf, armsRefused, opHeader, opBits, opVector}
 use Rattle.ops.proofs.Results.{result-width}
 use Rattle.knownness.specs.Knownness.{keepsKnown, isExact, Known, Keeps, Completes, Pointwise, gives}
 use Rattle.knownness.proofs.Bits.{keeps-refl}
-use Rattle.knownness.proofs.Forms.{Form, Exact}
+use Rattle.knownness.proofs.Forms.{Form, ExactForm}
 use Rattle.knownness.proofs.Ops.{armBit, formAt, Accepted, made-form, given-form, Proper, law, exact-keeps}
 
 -- ---- the operands
@@ -91,7 +91,7 @@ module _ (op : Op) (pos : ℕ) (a b c : Vector) (o : Accepted (familyOf op) a b 
         given-form a′ b′ c′ pos i (familyOf op) (accepted-again Completes op pos a b c a′ b′ c′ o ha hb hc)
         (subst (λ (n : ℕ). i < n) (sym (length-again Completes op pos a b c a′ b′ c′ o ha hb hc)) l) second
 
-    exact : Exact (Proper op) form
+    exact : ExactForm (Proper op) form
     exact = law pos i op (exact-keeps op k) .exact k
 
     module _ (v : LogicBit) (kv : Known v) where

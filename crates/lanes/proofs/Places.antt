@@ -16,7 +16,7 @@ use Rattle.bit.specs.declared.LogicBit.{LogicBit}
 use Rattle.bit.specs.declared.LogicBit.the-variants.{Zero}
 use Rattle.bit.specs.Rules.{notBit}
 use Rattle.words.specs.declared.Word.{Word}
-use Rattle.words.specs.Vector.{at, tabulate, Written}
+use Rattle.words.specs.Vector.{at, tabulate, FilledTo}
 use Rattle.words.specs.Planes.{valueDigit, unknownDigit, stored, planeBit, fromPlanes, wordOf, wordAt, packed, bitOf, wordBy}
 use Rattle.words.proofs.Digits.{pack-cong}
 use Rattle.words.proofs.Planes.{getD-tabulate, plane-bit, value-digit-lt, unknown-digit-lt}
@@ -73,7 +73,7 @@ direct w v u b k h j l =
     ∙ sym (getD-tabulate w (λ i. stored (planeBit v i) (planeBit u i)) (k * 64 + j) b (omega arith))
 
 -- what is written up to k is written up to any m below it, and by any F that agrees there
-pub fewer : {F G : ℕ → ℕ} {n k : ℕ} {out : List ℕ} → Written 0 F n k out → (m : ℕ) → m ≤ k → ((i : ℕ) → i < m → F i ≡ G i) → Written 0 G n m out
+pub fewer : {F G : ℕ → ℕ} {n k : ℕ} {out : List ℕ} → FilledTo 0 F n k out → (m : ℕ) → m ≤ k → ((i : ℕ) → i < m → F i ≡ G i) → FilledTo 0 G n m out
 fewer h m l e = record { long = h .long; upto = λ i b. h .upto i (omega arith) ∙ e i b }
 
 -- word k of a vector, where it lies below the width

@@ -27,7 +27,7 @@ use Rattle.words.proofs.Lanes.{Lane, word, gives, lane}
 use Rattle.words.proofs.Lanes.Lane.{av, au, neg, and, or}
 use Rattle.fold.specs.declared.Truth.the-variants.{False, True, Unknown}
 use Rattle.fold.specs.Fold.{anyOf, countOf, isUnknown, reduceAnd, reduceOr, reduceXor, truthOf}
-use Rattle.fold.specs.Scanned.{some, gather}
+use Rattle.fold.proofs.Scanned.{some, gather}
 use Rattle.fold.proofs.Gather.{gather-cong, of-list}
 use Rattle.fold.proofs.Places.{nonzero, WordPlanes}
 use Rattle.fold.proofs.Parity as parity

@@ -1,5 +1,5 @@
--- What the code answers for the reader's answer in the text s: a place of s instead of the text from there on; where the line is not as it should be, And
--- and the place past the end.
+-- What the code answers for the reader's answer in the text s (document 01, "Step list", the line op=): a place of s instead of the text from there on;
+-- where the line is not as it should be, And and the place past the end.
 use Prim.Native.Nat.{ℕ, _-_}
 use mathlib.Core.List.{List}
 use lib.ListN.{length}

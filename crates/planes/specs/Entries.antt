@@ -1,10 +1,8 @@
 -- Document 01, "Planes" and "Numbers for what is not done": what the entries of `planes` give, the answer and the lent planes as the call
 -- leaves them.
-use mathlib.Core.Bool.{_&&_, cond}
 use mathlib.Core.List.{List}
 use Prim.Native.Nat.{ℕ}
-use lib.Dec.{eqb, ltb}
-use lib.ListN.{length, set}
+use lib.ListN.{set}
 use Rattle.bit.specs.declared.LogicBit.{LogicBit}
 use Rattle.refusal.specs.Refusals.{refusalNumber}
 use Rattle.refusal.specs.Outcome.{Answer, Outcome, outcome, after, orRefuse}
@@ -15,7 +13,8 @@ use Rattle.planes.specs.declared.BitAnswer.the-variants as bit-answer
 use Rattle.planes.specs.declared.WordAnswer.{WordAnswer}
 use Rattle.planes.specs.declared.WordAnswer.the-variants as word-answer
 use Rattle.words.specs.Vector.{at}
-use Rattle.words.specs.Planes.{wordCount, clearAbove, masked, Planes, lent, vectorOf, planesOf}
+use Rattle.words.specs.Planes.{masked, Planes, lent, vectorOf, planesOf}
+use Rattle.planecheck.specs.PlaneCheck.{checkLengths, checkPlanes}
 use Rattle.bits.specs.Bits.{spliced, extracted}
 
 -- the answers in the paper's numbers
@@ -26,24 +25,6 @@ bitAnswer (bit-answer.Refused r) = refused (refusalNumber r)
 abbrev pub wordAnswer : WordAnswer → Answer Word
 wordAnswer (word-answer.Bits w) = given w
 wordAnswer (word-answer.Refused r) = refused (refusalNumber r)
-
--- ---- the checks, in document 01's order
-
-abbrev pub maxWidth : ℕ
-maxWidth = 1048576
-
--- both planes have exactly n words, or the refusal
-abbrev pub exactly : ℕ → Planes → ℕ → Answer Unit
-exactly n p refusal = cond (eqb (length (p .value)) n && eqb (length (p .unknown)) n) (given tt) (refused refusal)
-
--- 1 the width is above 1,048,576; 2 a plane is not exactly its word count
-unfoldable pub checkLengths : ℕ → Planes → Answer Unit
-checkLengths w p = cond (ltb maxWidth w) (refused 1) (exactly (wordCount w) p 2)
-
--- 1, 2, then 3 a bit is set at or above the width
-unfoldable pub checkPlanes : ℕ → Planes → Answer Unit
-checkPlanes w p =
-    after (checkLengths w p) (cond (clearAbove w (p .value) && clearAbove w (p .unknown)) (given tt) (refused 3))
 
 -- ---- the entries
 

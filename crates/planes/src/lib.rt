@@ -1,16 +1,15 @@
 // A vector as two lent planes of 64-bit words, value and unknown. Bit i is bit i mod 64 of word i div 64 of each plane: 0 is stored as (0,0),
 // 1 as (1,0), x as (0,1) and z as (1,1). Bits at or above the width are 0.
 use bit::LogicBit;
+use planecheck::check_lengths;
+use planecheck::check_planes;
 use refusal::Refusal;
 use refusal::Verdict;
 use words::Word;
 ghost use mathlib.Core.Path.{_≡_};
 ghost use Rattle.refusal.specs.Outcome.{outcome, verdict};
 ghost use Rattle.words.specs.Planes.{lent};
-ghost use Rattle.planes.specs.Entries.{bitAnswer, wordAnswer, checkLengths, checkPlanes, getBit, setBit, spliceBits, extractBits, maskTop};
-
-// The widest vector.
-pub const MAX_WIDTH: u32 = 1_048_576;
+ghost use Rattle.planes.specs.Entries.{bitAnswer, wordAnswer, getBit, setBit, spliceBits, extractBits, maskTop};
 
 pub enum BitAnswer {
     Bit(LogicBit),
@@ -20,41 +19,6 @@ pub enum BitAnswer {
 pub enum WordAnswer {
     Bits(Word),
     Refused(Refusal),
-}
-
-// Whether the width and the planes' lengths are in order: 1, then 2.
-pub fn check_lengths(width: u32, value: &[u64], unknown: &[u64]) -> Verdict
-    ensures { λ r. ⌜ verdict r ≡ checkLengths width (lent (now (value .entry)) (now (unknown .entry))) ⌝ }
-{
-    if MAX_WIDTH < width {
-        return Verdict::Refused(Refusal::TooWide);
-    }
-    let n = words::word_count(width);
-    if value.len() != n {
-        return Verdict::Refused(Refusal::PlaneLength);
-    }
-    if unknown.len() != n {
-        return Verdict::Refused(Refusal::PlaneLength);
-    }
-    Verdict::Accepted
-}
-
-// Whether the planes may be those of a vector of that width: 1, then 2, then 3.
-pub fn check_planes(width: u32, value: &[u64], unknown: &[u64]) -> Verdict
-    ensures { λ r. ⌜ verdict r ≡ checkPlanes width (lent (now (value .entry)) (now (unknown .entry))) ⌝ }
-{
-    match check_lengths(width, value, unknown) {
-        Verdict::Refused(r) => Verdict::Refused(r),
-        Verdict::Accepted => {
-            if !words::inner::is_clear(value, width) {
-                return Verdict::Refused(Refusal::BitAboveWidth);
-            }
-            if !words::inner::is_clear(unknown, width) {
-                return Verdict::Refused(Refusal::BitAboveWidth);
-            }
-            Verdict::Accepted
-        }
-    }
 }
 
 // Bit i; 0 at or above the width.

@@ -1,5 +1,5 @@
 // A real as a vector.
-use planes::MAX_WIDTH;
+use planecheck::MAX_WIDTH;
 use refusal::Refusal;
 use refusal::Verdict;
 use value::VectorAnswer;

@@ -1,14 +1,14 @@
 // The readers of a table. What they promise is what a program needs to go on: places in the text and in the planes that are lent.
 use crate::text::bare;
+use crate::text::bits_of;
 use crate::text::decimal;
-use crate::text::digits;
-use crate::text::extent_of;
 use crate::text::fits;
 use crate::text::is_real;
 use crate::text::load;
 use crate::text::number_of;
 use crate::text::part;
 use crate::text::real;
+use crate::text::sizes_of;
 use crate::text::until;
 use crate::text::word;
 use agreement::Field;
@@ -65,18 +65,18 @@ pub fn field(line: &[u8], k: usize, value: &mut [u64], unknown: &mut [u64]) -> F
     ensures { λ r. ⌜ (r .value ≤ length (now (value .exit))) × (r .unknown ≤ length (now (unknown .exit))) ⌝ }
 {
     let s = part(line, k, b' ');
-    let e = extent_of(s);
+    let e = sizes_of(s);
     let h = e.header;
     let m = least(e.value, value.len());
     let n = least(e.unknown, unknown.len());
-    load(digits(s), 1, value, m);
-    load(digits(s), 2, unknown, n);
+    load(bits_of(s), 1, value, m);
+    load(bits_of(s), 2, unknown, n);
     Field {
         is_refusal: until(s, 0, b'!') < s.len(),
         is_real: is_real(s),
         number: decimal(bare(s)),
         real: real(s),
-        word: word(digits(s)),
+        word: word(bits_of(s)),
         header: h,
         value: m,
         unknown: n,

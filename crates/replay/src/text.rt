@@ -91,7 +91,7 @@ fn plane_bit(bits: &[u8], divisor: u64, i: usize) -> u64
 }
 
 // The word of that plane that starts at bit i.
-fn word_from(bits: &[u8], divisor: u64, i: usize) -> u64
+fn word_of(bits: &[u8], divisor: u64, i: usize) -> u64
     requires { ⌜ 0 < divisor ⌝ }
     requires { ⌜ i ≤ 1048576 ⌝ }
 {
@@ -107,8 +107,8 @@ fn word_from(bits: &[u8], divisor: u64, i: usize) -> u64
 // The lowest bits as a word of both planes.
 pub(crate) fn word(bits: &[u8]) -> Word {
     Word {
-        value: word_from(bits, 1, 0),
-        unknown: word_from(bits, 2, 0),
+        value: word_of(bits, 1, 0),
+        unknown: word_of(bits, 2, 0),
     }
 }
 
@@ -122,7 +122,7 @@ pub(crate) fn load(bits: &[u8], divisor: u64, plane: &mut [u64], n: usize)
         if 16384 < k {
             return;
         }
-        plane[k] = word_from(bits, divisor, k * 64);
+        plane[k] = word_of(bits, divisor, k * 64);
         k += 1;
     }
 }
@@ -154,7 +154,7 @@ pub(crate) fn bare(s: &[u8]) -> &[u8] {
 }
 
 // A vector's header and how many words each plane has.
-pub(crate) struct Extent {
+pub(crate) struct Sizes {
     pub(crate) header: Header,
     pub(crate) value: usize,
     pub(crate) unknown: usize,
@@ -162,13 +162,13 @@ pub(crate) struct Extent {
 
 // Whether planes of n words have as many as field k of a line asks for.
 pub(crate) fn fits(line: &[u8], k: usize, n: usize) -> bool {
-    let e = extent_of(part(line, k, b' '));
+    let e = sizes_of(part(line, k, b' '));
     e.value <= n && e.unknown <= n
 }
 
-fn marked(s: &[u8], width: u64, value: usize, unknown: usize) -> Extent {
+fn sized(s: &[u8], width: u64, value: usize, unknown: usize) -> Sizes {
     let letter = if s.len() == 0 { b'u' } else { s[0] };
-    Extent {
+    Sizes {
         header: Header {
             width: (width % 0x1_0000_0000) as u32,
             is_signed: letter == b's' || letter == b'g',
@@ -180,23 +180,23 @@ fn marked(s: &[u8], width: u64, value: usize, unknown: usize) -> Extent {
 }
 
 // A vector without a colon is its bits alone; a real has no planes.
-pub(crate) fn extent_of(s: &[u8]) -> Extent {
+pub(crate) fn sizes_of(s: &[u8]) -> Sizes {
     let vector = bare(s);
     if is_real(s) {
-        return marked(s, 0, 0, 0);
+        return sized(s, 0, 0, 0);
     }
     if until(vector, 0, b':') == vector.len() {
         let n = words::word_count((vector.len() % 0x1_0000_0000) as u32);
-        return marked(s, vector.len() as u64, n, n);
+        return sized(s, vector.len() as u64, n, n);
     }
     let width = decimal(part(vector, 0, b':'));
     let value = decimal(part(vector, 1, b':')) as usize;
     let unknown = decimal(part(vector, 2, b':')) as usize;
-    marked(s, width, value, unknown)
+    sized(s, width, value, unknown)
 }
 
 // A vector's bits.
-pub(crate) fn digits(s: &[u8]) -> &[u8] {
+pub(crate) fn bits_of(s: &[u8]) -> &[u8] {
     let vector = bare(s);
     if until(vector, 0, b':') == vector.len() {
         return vector;

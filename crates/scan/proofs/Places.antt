@@ -19,7 +19,7 @@ use Rattle.words.specs.Planes.{Planes, lent, fromPlanes}
 use Rattle.value.specs.declared.Header.{Header}
 use Rattle.value.specs.Checks.{Vector, vector}
 use Rattle.fold.specs.Fold.{anyOf, isUnknown, reduceAnd}
-use Rattle.fold.specs.Scanned.{Scanned}
+use Rattle.fold.proofs.Scanned.{Scanned}
 use Rattle.fold.proofs.Gather.{gather-cong}
 use Rattle.fold.proofs.Places.{any-tabulate}
 use Rattle.fold.proofs.Scan.{none-left, open-told}

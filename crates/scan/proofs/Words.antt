@@ -26,7 +26,7 @@ use Rattle.words.proofs.Planes.{getD-tabulate, getD-tabulate-out, length-tabula
 use Rattle.words.proofs.Lanes.{Lane, word, gives, lane}
 use Rattle.words.proofs.Extend.{cut, word-bit}
 use Rattle.fold.specs.Fold.{anyOf}
-use Rattle.fold.specs.Scanned.{some}
+use Rattle.fold.proofs.Scanned.{some}
 use Rattle.fold.proofs.Gather.{gather-cong}
 use Rattle.fold.proofs.Places.{any-some, nonzero, inside}
 use Rattle.fold.proofs.Scan.{start, more, found}

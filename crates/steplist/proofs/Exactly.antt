@@ -24,7 +24,7 @@ use Rattle.opline.specs.OpLine.{choiceLine, largest}
 use Rattle.opline.proofs.Names.{choice-exact, op-exact}
 use Rattle.steplist.specs.Listing.{StepList, Kind, unsigned, signed, fill, allKinds, kindName, kindHeader, kindOf, widthKey, kindKey}
 use Rattle.steplist.specs.Listing.{input, inputText, InputWithin, aKey, bKey, cKey, numbers, step, stepText, StepWithin}
-use Rattle.steplist.specs.Listing.{inputsKey, stepsKey, list, listText, Within, readToEnd, whole, WholeExactly}
+use Rattle.steplist.specs.Listing.{inputsKey, stepsKey, list, listText, InLimits, readToEnd, whole, WholeExactly}
 
 -- ---- a value made of what was read last
 
@@ -121,8 +121,8 @@ step-exact =
 
 -- ---- a whole list
 
-list-exact : Exact list listText Within
-unfolding list listText Within
+list-exact : Exact list listText InLimits
+unfolding list listText InLimits
 list-exact =
     limit-exact (λ l p. (p .0, p .1 .0, p .1 .1, p .1 .2)) (λ l p. (p .0, (p .1, p .2, p .3)))
     (next-exact {Q = λ l. (length (l .steps) ≤ 256) × All InputWithin (l .inputs) × All StepWithin (l .steps)} (λ l. length (l .inputs)) (line-exact inputsKey 64) (λ n.
@@ -139,7 +139,7 @@ pub whole-exactly : WholeExactly
 unfolding whole
 whole-exactly t l = (there (leb (length t) 65536) refl, back)
   where
-    ended-given : (g : Got StepList) → list t ≡ g → readToEnd g ≡ given l → (t ≡ listText l) × Within l
+    ended-given : (g : Got StepList) → list t ≡ g → readToEnd g ≡ given l → (t ≡ listText l) × InLimits l
     ended-given (found k []) e h =
         let q : k ≡ l = cc in
         let o = list-exact .only l t [] (e ∙ ap (λ (z : StepList). found z []) q) in
@@ -147,9 +147,9 @@ whole-exactly t l = (there (leb (length t) 65536) refl, back)
     ended-given (found k (c ∷ u)) e h = let z : _≡_ {A = ℕ} 0 1 = cc in absurd (omega arith)
     ended-given broken e h = let z : _≡_ {A = ℕ} 0 1 = cc in absurd (omega arith)
 
-    there : (b : Bool) → leb (length t) 65536 ≡ b → cond b (readToEnd (list t)) (refused 6) ≡ given l → (t ≡ listText l) × Within l × (length t ≤ 65536)
+    there : (b : Bool) → leb (length t) 65536 ≡ b → cond b (readToEnd (list t)) (refused 6) ≡ given l → (t ≡ listText l) × InLimits l × (length t ≤ 65536)
     there true e h = let r = ended-given (list t) refl h in (r .0, r .1, leb-true (length t) 65536 e)
     there false e h = let z : _≡_ {A = ℕ} 0 1 = cc in absurd (omega arith)
 
-    back : (t ≡ listText l) × Within l × (length t ≤ 65536) → cond (leb (length t) 65536) (readToEnd (list t)) (refused 6) ≡ given l
+    back : (t ≡ listText l) × InLimits l × (length t ≤ 65536) → cond (leb (length t) 65536) (readToEnd (list t)) (refused 6) ≡ given l
     back p = rw (le-leb (length t) 65536 (p .2)) (rw (p .0 ∙ sym (append-nil (listText l)), list-exact .accepts l [] (p .1)) refl)

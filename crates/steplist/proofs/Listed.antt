@@ -14,7 +14,7 @@ use Rattle.words.proofs.Planes.{length-tabulate, getD-tabulate}
 use Rattle.text.specs.Exact.{All}
 use Rattle.text.proofs.Vectors.{bits-length}
 use Rattle.value.specs.Checks.{Vector}
-use Rattle.steplist.specs.Listing.{InputWithin, Within, whole}
+use Rattle.steplist.specs.Listing.{InputWithin, InLimits, whole}
 use Rattle.steplist.specs.Answers.{inputIn, noInput, listIn, listAnswer}
 use Rattle.steplist.specs.declared.Input.{Input}
 use Rattle.steplist.specs.declared.ListAnswer.{ListAnswer}
@@ -29,11 +29,11 @@ module _ (s : List ℕ) (r : ListAnswer) (e : listAnswer s r ≡ whole s) (ok : 
   pub listed : whole s ≡ given (listIn s (r .list))
   listed = sym e ∙ rw ok
 
-  within : Within (listIn s (r .list))
+  within : InLimits (listIn s (r .list))
   within = whole-exactly s (listIn s (r .list)) .0 listed .1
 
   pub listed-counts : (r .list .«input_count» ≤ 64) × (r .list .«step_count» ≤ 256)
-  unfolding Within
+  unfolding InLimits
   listed-counts = (
     subst (λ (n : ℕ). n ≤ 64) (length-tabulate (r .list .«input_count») _) (within .0),
     subst (λ (n : ℕ). n ≤ 256) (length-tabulate (r .list .«step_count») _) (within .1),
@@ -41,7 +41,7 @@ module _ (s : List ℕ) (r : ListAnswer) (e : listAnswer s r ≡ whole s) (ok : 
 
   pub listed-places : (i : ℕ) → i < r .list .«input_count» → let x = getD (r .list .inputs) i noInput in
       (x .header .width ≤ 4096) × (x .header .width ≤ length s - x .place) × ((x .header .«is_signed» && x .header .«is_fill») ≡ false)
-  unfolding Within InputWithin
+  unfolding InLimits InputWithin
   listed-places i h =
       let n = r .list .«input_count» in
       let f : ℕ → Vector = λ j. inputIn s (getD (r .list .inputs) j noInput) in

@@ -129,8 +129,8 @@ listText l =
     (inputsKey ++ numberText (length (l .inputs)))
     ++ ((stepsKey ++ numberText (length (l .steps))) ++ (texts inputText (l .inputs) ++ texts stepText (l .steps)))
 
-unfoldable pub Within : StepList → Type 0
-Within l = (length (l .inputs) ≤ 64) × (length (l .steps) ≤ 256) × All InputWithin (l .inputs) × All StepWithin (l .steps)
+unfoldable pub InLimits : StepList → Type 0
+InLimits l = (length (l .inputs) ≤ 64) × (length (l .steps) ≤ 256) × All InputWithin (l .inputs) × All StepWithin (l .steps)
 
 -- nothing follows; 6 where the format is broken
 abbrev pub readToEnd : Got StepList → Answer StepList
@@ -144,4 +144,4 @@ whole t = cond (leb (length t) 65536) (readToEnd (list t)) (refused 6)
 
 -- a text is accepted as the list l exactly where it is l's text, l is within the limits and the text is not too long
 abbrev pub WholeExactly : Type 0
-WholeExactly = (t : List ℕ) (l : StepList) → (whole t ≡ given l) ↔ ((t ≡ listText l) × Within l × (length t ≤ 65536))
+WholeExactly = (t : List ℕ) (l : StepList) → (whole t ≡ given l) ↔ ((t ≡ listText l) × InLimits l × (length t ≤ 65536))

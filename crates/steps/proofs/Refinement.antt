@@ -12,11 +12,11 @@ use Rattle.knownness.proofs.Runs.{headers-again, sound-again, alike, exact}
 use Rattle.store.specs.Store.{state, emptyStore, Holds, roomOf}
 use Rattle.store.specs.Step.{memory}
 use Rattle.store.proofs.Held.{empty-holds}
-use Rattle.steplist.specs.Listing.{InputWithin, Within}
+use Rattle.steplist.specs.Listing.{InputWithin, InLimits}
 use Rattle.steplist.proofs.Exactly.{whole-exactly}
 use Rattle.inputs.specs.Inputs.{addInputs}
 use Rattle.steps.specs.Run.{afterInputs, emptied, runWhole}
-use Rattle.steps.specs.Refinement.{LentMemory, stepList, runOn, Accepted, Plain, Refinement, TextRefinement}
+use Rattle.steps.specs.Refinement.{LentMemory, stepList, runOn, Accepted, PlainRun, Refinement, TextRefinement}
 use Rattle.steps.proofs.Plain.{Same, steps-plain}
 use Rattle.steps.proofs.Inputs.{Accepts, inputs-plain, accepts}
 
@@ -30,7 +30,7 @@ module _ (m : LentMemory) (A : List Vector) (level : length (m .arenas .unknown)
   by-headers : Accepted m A → Accepts (room m) [] (headersOf A)
   by-headers a = accepts (m .scratch) (room m) A (state emptyStore (m .arenas)) [] refl empty sound a
 
-  run-plain : (ss : List Step) → Accepts (room m) [] (headersOf A) → Plain m A ss
+  run-plain : (ss : List Step) → Accepts (room m) [] (headersOf A) → PlainRun m A ss
   run-plain ss a =
       let fed = addInputs (state emptyStore (m .arenas)) A in
       let h = inputs-plain (m .scratch) (room m) A (state emptyStore (m .arenas)) [] refl empty sound a in
@@ -46,8 +46,8 @@ refinement m n same A B ss sound accepted refines =
     let level-B : length (n .arenas .unknown) ≡ length (n .arenas .value) = same .arenas .1 ∙ same .level ∙ sym (same .arenas .0) in
     let r : room n ≡ room m = λ i. record { arena = same .arenas .0 i; scratch = min (same .scratch .0 i) (same .scratch .1 i) } in
     let a = by-headers m A (same .level) sound accepted in
-    let p : Plain m A ss = run-plain m A (same .level) sound ss a in
-    let q : Plain n B ss =
+    let p : PlainRun m A ss = run-plain m A (same .level) sound ss a in
+    let q : PlainRun n B ss =
     run-plain n B level-B sound-B ss (subst (λ z. Accepts z [] (headersOf B)) (sym r) (subst (Accepts (room m) []) (sym (headers-again Refines A B refines)) a))
     in
     let l = alike (room m) A B ss sound refines in
@@ -70,7 +70,7 @@ within-sound (x ∷ xs) h zero = h .0 .1
 within-sound (x ∷ xs) h (suc j) = within-sound xs (h .1) j
 
 pub text-refinement : TextRefinement
-unfolding Within
+unfolding InLimits
 text-refinement m n same A B ss t u et eu accepted refines = (
   refinement m n same A B ss (within-sound A (whole-exactly t (stepList A ss) .0 et .1 .2)) accepted refines,
   ap (runWhole (emptied (m .arenas) (m .scratch))) et,

@@ -38,7 +38,7 @@ abbrev pub Accepted : LentMemory → List Vector → Type 0
 Accepted m A = addInputs (state emptyStore (m .arenas)) A .answer ≡ given tt
 
 -- a run is the plain machine's: it ends as that does, and the final store and arenas hold exactly that machine's cells
-pub record Plain (m : LentMemory) (A : List Vector) (ss : List Step) : Type 0 where
+pub record PlainRun (m : LentMemory) (A : List Vector) (ss : List Step) : Type 0 where
   pub ending : runOn m A ss .ending ≡ machineRun (roomOf (m .arenas) (m .scratch)) A ss .ending
   pub cells : Holds (runOn m A ss .memory .state) (machineRun (roomOf (m .arenas) (m .scratch)) A ss .cells)
 
@@ -46,8 +46,8 @@ pub record Refined (m n : LentMemory) (A B : List Vector) (ss : List Step) : Typ
   -- the same ending: the list's end, or the same refusal at the same step
   pub ending : runOn n B ss .ending ≡ runOn m A ss .ending
   -- each run is the plain machine's
-  pub plain : Plain m A ss
-  pub plain-refined : Plain n B ss
+  pub plain : PlainRun m A ss
+  pub plain-refined : PlainRun n B ss
   -- every bit known in any cell under A is the same under B
   pub kept : AllKeep ss → Cellwise Keeps (machineRun (roomOf (m .arenas) (m .scratch)) A ss .cells) (machineRun (roomOf (n .arenas) (n .scratch)) B ss .cells)
   -- each bit of each step's result is known as v exactly when all completions of the step's operands give v

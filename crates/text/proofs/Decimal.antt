@@ -9,31 +9,31 @@ use native.Mathlib.Omega.{arith}
 use lib.Dec.{ltb, leb, eqb}
 use borrow.Author.Tests.{ne-eqb, le-leb, le-ltb, lt-ltb, eqb-true, leb-true, eqb-false, ltb-true, ltb-false}
 use Rattle.text.specs.Read.{Got, found, broken, onlyIf, next, lineEnd, key, isDigit, more, number, numberLine}
-use Rattle.text.specs.Write.{digits, decimal, numberText}
+use Rattle.text.specs.Write.{decimalDigits, decimal, numberText}
 use Rattle.text.specs.Exact.{Exact}
 use Rattle.text.proofs.Exact.{when-found, key-only, after-key}
 
 -- ---- the text
 
 -- room for more digits than there are changes nothing
-digits-room : (f g n : ℕ) → n < f → n < g → digits f n ≡ digits g n
-unfolding digits
+digits-room : (f g n : ℕ) → n < f → n < g → decimalDigits f n ≡ decimalDigits g n
+unfolding decimalDigits
 digits-room zero g n p q = absurd (omega arith)
 digits-room (suc f) zero n p q = absurd (omega arith)
 digits-room (suc f) (suc g) n p q = go (ltb n 10) refl (λ h k. digits-room f g (n / 10) h k)
   where
-    go : (b : Bool) → ltb n 10 ≡ b → (n / 10 < f → n / 10 < g → digits f (n / 10) ≡ digits g (n / 10)) → digits (suc f) n ≡ digits (suc g) n
-    go true e ih = rw (e, digits)
+    go : (b : Bool) → ltb n 10 ≡ b → (n / 10 < f → n / 10 < g → decimalDigits f (n / 10) ≡ decimalDigits g (n / 10)) → decimalDigits (suc f) n ≡ decimalDigits (suc g) n
+    go true e ih = rw (e, decimalDigits)
     go false e ih =
         let h = ltb-false n 10 e in
         rw e (ap (λ (l : List ℕ). l ++ ((48 + n % 10) ∷ [])) (ih (omega arith) (omega arith)))
 
 pub decimal-digit : (n : ℕ) → n < 10 → decimal n ≡ (48 + n) ∷ []
-unfolding decimal digits
+unfolding decimal decimalDigits
 decimal-digit n h = rw (lt-ltb n 10 h)
 
 pub decimal-more : (n d : ℕ) → 0 < n → d < 10 → decimal (n * 10 + d) ≡ decimal n ++ ((48 + d) ∷ [])
-unfolding decimal digits
+unfolding decimal decimalDigits
 decimal-more n d h k =
     let e : (n * 10 + d) / 10 ≡ n = omega arith in
     let q : (n * 10 + d) % 10 ≡ d = omega arith in
@@ -149,7 +149,7 @@ number-begun (suc f) m n t k p q = go (ltb n 10) refl (λ a b. number-begun f m 
         ∙ ap (λ (x : ℕ). more m x t) back)
 
 number-accepts : (m n : ℕ) (t : List ℕ) → n ≤ m → number m (numberText n ++ t) ≡ found n t
-unfolding numberText number more key decimal digits
+unfolding numberText number more key decimal decimalDigits
 number-accepts m zero t q = refl
 number-accepts m (suc n) t q =
     ap (number m) (append-assoc (decimal (suc n)) lineEnd t) ∙ number-begun (suc (suc n)) m (suc n) (10 ∷ t) (omega arith) (omega arith) q

@@ -14,13 +14,13 @@ texts w [] = []
 texts w (a ∷ l) = w a ++ texts w l
 
 -- the decimal digits of n, highest first, of which there are at most f
-unfoldable pub digits : ℕ → ℕ → List ℕ
-digits zero n = []
-digits (suc f) n = let several = digits f (n / 10) ++ ((48 + n % 10) ∷ []) in cond (ltb n 10) ((48 + n) ∷ []) several
+unfoldable pub decimalDigits : ℕ → ℕ → List ℕ
+decimalDigits zero n = []
+decimalDigits (suc f) n = let several = decimalDigits f (n / 10) ++ ((48 + n % 10) ∷ []) in cond (ltb n 10) ((48 + n) ∷ []) several
 
 -- a number in decimal, no leading zeros; it has at most suc n digits
 unfoldable pub decimal : ℕ → List ℕ
-decimal n = digits (suc n) n
+decimal n = decimalDigits (suc n) n
 
 unfoldable pub numberText : ℕ → List ℕ
 numberText n = decimal n ++ lineEnd

@@ -8,8 +8,8 @@ use lib.Dec.{eqb}
 use Rattle.refusal.specs.Outcome.{Answer, after}
 use Rattle.refusal.specs.Outcome.Answer.{given, refused}
 use Rattle.words.specs.Planes.{Planes}
-use Rattle.planes.specs.Entries.{checkPlanes}
-use Rattle.planes.proofs.Checks.{Checked, planes-accepted}
+use Rattle.planecheck.specs.PlaneCheck.{checkPlanes}
+use Rattle.planecheck.proofs.Checks.{Checked, planes-accepted}
 use Rattle.value.specs.declared.Header.{Header}
 use Rattle.value.specs.Checks.{checkVector, checkPair}
 

@@ -10,7 +10,7 @@ use Rattle.refusal.specs.Outcome.Answer.{given, refused}
 use Rattle.bit.specs.declared.LogicBit.{LogicBit}
 use Rattle.words.specs.Planes.{wordCount, vectorOf, planesOf}
 use Rattle.words.specs.Planes.{Planes}
-use Rattle.planes.specs.Entries.{exactly, checkPlanes}
+use Rattle.planecheck.specs.PlaneCheck.{exactly, checkPlanes}
 use Rattle.value.specs.declared.Header.{Header}
 use Rattle.value.specs.declared.Operand.{Operand}
 use Rattle.value.specs.declared.Operand.the-variants as operand

@@ -30,7 +30,7 @@ pub fn check_vector(h: Header, value: &[u64], unknown: &[u64]) -> Verdict
     ensures { λ r. ⌜ verdict r ≡ checkVector h (lent (now (value .entry)) (now (unknown .entry))) ⌝ }
 {
     let width = h.width;
-    match planes::check_planes(width, value, unknown) {
+    match planecheck::check_planes(width, value, unknown) {
         Verdict::Refused(r) => Verdict::Refused(r),
         Verdict::Accepted => {
             if h.is_fill {

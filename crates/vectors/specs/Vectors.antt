@@ -22,7 +22,7 @@ abbrev pub resultHeader : Bitwise → Header → Header → Header
 resultHeader op a b = record { width = largerWidth a b; «is_signed» = resultSigned op a b; «is_fill» = false }
 
 -- `bitwise_and`, `bitwise_or`, `bitwise_xor`, `merge_unknown`: 1 to 4 for the left operand, then for the right, then 5
-abbrev pub bitwise : Bitwise → Header → Planes → Header → Planes → Planes → Outcome Header Planes
-bitwise op a p b q out =
+abbrev pub joinVectors : Bitwise → Header → Planes → Header → Planes → Planes → Outcome Header Planes
+joinVectors op a p b q out =
     orRefuse (checkPair a p b q) out
     (written (record { header = resultHeader op a b; bits = joined op (vector a p) (vector b q) }) out)

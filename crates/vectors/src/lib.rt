@@ -10,7 +10,7 @@ ghost use mathlib.Core.Path.{_≡_};
 ghost use Rattle.refusal.specs.Outcome.{outcome};
 ghost use Rattle.words.specs.Planes.{lent};
 ghost use Rattle.value.specs.Checks.{vectorAnswer};
-ghost use Rattle.vectors.specs.Vectors.{bitwise, resultHeader};
+ghost use Rattle.vectors.specs.Vectors.{joinVectors, resultHeader};
 
 // The header of the operator's result.
 pub fn result_header(op: Bitwise, a: Header, b: Header) -> Header
@@ -39,7 +39,7 @@ pub fn join_vectors(
     ov: &mut [u64],
     ou: &mut [u64],
 ) -> VectorAnswer
-    ensures { λ r. ⌜ outcome (vectorAnswer r) (lent (now (ov .exit)) (now (ou .exit))) ≡ bitwise op a (lent (now (av .entry)) (now (au .entry))) b (lent (now (bv .entry)) (now (bu .entry))) (lent (now (ov .entry)) (now (ou .entry))) ⌝ }
+    ensures { λ r. ⌜ outcome (vectorAnswer r) (lent (now (ov .exit)) (now (ou .exit))) ≡ joinVectors op a (lent (now (av .entry)) (now (au .entry))) b (lent (now (bv .entry)) (now (bu .entry))) (lent (now (ov .entry)) (now (ou .entry))) ⌝ }
 {
     match check_vector(a, av, au) {
         Verdict::Refused(r) => VectorAnswer::Refused(r),

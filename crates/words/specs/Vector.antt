@@ -13,7 +13,7 @@ tabulate zero f = []
 tabulate (suc n) f = f 0 ∷ tabulate n (λ i. f (suc i))
 
 -- of n places the first k are F 0, .., F (k - 1); d is what a place past the end reads
-pub record Written {A : Type 0} (d : A) (F : ℕ → A) (n k : ℕ) (out : List A) : Type 0 where
+pub record FilledTo {A : Type 0} (d : A) (F : ℕ → A) (n k : ℕ) (out : List A) : Type 0 where
   pub long : length out ≡ n
   pub upto : (i : ℕ) → i < k → getD out i d ≡ F i
 

@@ -88,12 +88,6 @@ impl Vector {
     }
 }
 
-impl From<WidePlanes> for Vector {
-    fn from(p: WidePlanes) -> Vector {
-        Vector::plain(p.nbits, p.val, p.xz)
-    }
-}
-
 impl From<Value> for Vector {
     /// The stored words of a narrow value as they are; a wide one's bit by bit.
     fn from(v: Value) -> Vector {

@@ -12,7 +12,7 @@ use native.Mathlib.Omega.{arith}
 use Rattle.refusal.specs.Outcome.{Answer, outcome, orRefuse, verdict}
 use Rattle.refusal.specs.Outcome.Answer.{given}
 use Rattle.words.specs.Planes.{Planes}
-use Rattle.planes.proofs.Checks.{exactly-accepted}
+use Rattle.planecheck.proofs.Checks.{exactly-accepted}
 use Rattle.value.specs.Checks.{checkOutput}
 use borrow.Author.Needs.{needs}
 use Rattle.constructors.proofs.construct.Statement.{statement}

@@ -5,7 +5,7 @@ use native.Mathlib.Omega.{arith}
 use borrow.Author.Needs.{needs}
 use mathlib.Core.Bool.{Bool, false}
 use lib.ListN.{length, getD, length-map, length-replicate}
-use Rattle.words.specs.Vector.{Written}
+use Rattle.words.specs.Vector.{FilledTo}
 use Rattle.words.proofs.Fill.{start, more, map-done}
 use Rattle.store.specs.declared.Store.{Store}
 use Rattle.cells.specs.declared.Cell.{Cell}
@@ -20,10 +20,10 @@ cell s i = getD (s .cells) i noCell
 
 -- the first k places of f are those of the store's cells
 record Copied (s : Store) (k : ℕ) (f : Fields) : Type 0 where
-  starts : Written 0 (λ i. cell s i .start) 320 k (f .starts)
-  widths : Written 0 (λ i. cell s i .header .width) 320 k (f .widths)
-  signs : Written false (λ i. cell s i .header .«is_signed») 320 k (f .signs)
-  fills : Written false (λ i. cell s i .header .«is_fill») 320 k (f .fills)
+  starts : FilledTo 0 (λ i. cell s i .start) 320 k (f .starts)
+  widths : FilledTo 0 (λ i. cell s i .header .width) 320 k (f .widths)
+  signs : FilledTo false (λ i. cell s i .header .«is_signed») 320 k (f .signs)
+  fills : FilledTo false (λ i. cell s i .header .«is_fill») 320 k (f .fills)
 
 abbrev Inv-loop : tie.InvT-loop
 Inv-loop s f₀ i₀ f i = (i ≤ 320) × Copied s i f

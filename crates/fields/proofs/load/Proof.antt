@@ -5,7 +5,7 @@ use native.Mathlib.Omega.{arith}
 use borrow.Author.Needs.{needs}
 use mathlib.Core.List.{List}
 use lib.ListN.{length, length-replicate}
-use Rattle.words.specs.Vector.{Written}
+use Rattle.words.specs.Vector.{FilledTo}
 use Rattle.words.proofs.Fill.{start, more, done}
 use Rattle.cells.specs.declared.Cell.{Cell}
 use Rattle.store.specs.declared.Store.{Store}
@@ -16,7 +16,7 @@ use Rattle.fields.proofs.load.Statement.{statement}
 use Rattle.fields.proofs.load.Tie as tie
 
 abbrev Inv-loop : tie.InvT-loop
-Inv-loop count starts widths signs fills s₀ i₀ s i = (i ≤ 320) × Written noCell (cellOf (fields starts widths signs fills)) 320 i (s .cells)
+Inv-loop count starts widths signs fills s₀ i₀ s i = (i ≤ 320) × FilledTo noCell (cellOf (fields starts widths signs fills)) 320 i (s .cells)
 
 abbrev μ-loop : tie.MeasureT-loop
 μ-loop count starts widths signs fills s₀ i₀ s i = 320 - i

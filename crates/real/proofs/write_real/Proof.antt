@@ -7,7 +7,7 @@ use borrow.Author.Needs.{needs}
 use lib.Bits.{bitAnd}
 use lib.Dec.{eqb}
 use lib.ListN.{length}
-use Rattle.words.specs.Vector.{at, Written}
+use Rattle.words.specs.Vector.{at, FilledTo}
 use Rattle.words.specs.Planes.{valueDigit, unknownDigit, wordCount, wordOf, lent}
 use Rattle.words.proofs.Fill.{start, more, plane-done}
 use Rattle.real.specs.Round.{realVector}
@@ -19,8 +19,8 @@ abbrev Inv-loop : tie.InvT-loop
 Inv-loop f width value₀ unknown₀ negative digits shift zeros₀ k₀ value unknown zeros k =
     (k ≤ length value₀)
     × (zeros ≡ eqb (digits * 2 ^ shift % 2 ^ (k * 64)) 0)
-    × Written 0 (wordOf valueDigit (at (realVector width f))) (length value₀) k value
-    × Written 0 (wordOf unknownDigit (at (realVector width f))) (length unknown₀) k unknown
+    × FilledTo 0 (wordOf valueDigit (at (realVector width f))) (length value₀) k value
+    × FilledTo 0 (wordOf unknownDigit (at (realVector width f))) (length unknown₀) k unknown
 
 abbrev μ-loop : tie.MeasureT-loop
 μ-loop f width value₀ unknown₀ negative digits shift zeros₀ k₀ value unknown zeros k = length value₀ - k

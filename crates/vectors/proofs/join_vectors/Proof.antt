@@ -3,7 +3,7 @@ use mathlib.Core.Path.{_≡_, sym, ap, ap₂, _∙_}
 use Rattle.refusal.specs.Outcome.{Answer, outcome, verdict}
 use Rattle.refusal.specs.Outcome.Answer.{given}
 use Rattle.words.specs.Planes.{Planes, lent}
-use Rattle.planes.proofs.Checks.{exactly-accepted}
+use Rattle.planecheck.proofs.Checks.{exactly-accepted}
 use Rattle.value.specs.declared.Header.{Header}
 use Rattle.value.specs.Checks.{checkOutput}
 use Rattle.value.proofs.Checks.{vector-accepted}

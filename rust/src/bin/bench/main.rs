@@ -1,4 +1,4 @@
-//! The reference and the library side by side, in one run of about a minute; prints the tables of docs/PERFORMANCE.md. Words on the command
+//! The reference and the library side by side, in one run of about a minute; prints the figures of docs/PERFORMANCE.md. Words on the command
 //! line name the operators to run, all without any.
 //!
 //! reference: the operator of `Value`, which allocates its result where that is wider than 64 bits; the drop is in the time too.

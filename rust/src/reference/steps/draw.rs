@@ -1,5 +1,5 @@
 //! Step lists, refined inputs and memory, drawn from a fixed seed.
-use super::{List, Machine, Memory};
+use super::{keeps_known, List, Machine, Memory};
 use crate::planes::word_count;
 use crate::reference::draw::Rng;
 use crate::reference::Vector;
@@ -35,12 +35,10 @@ impl Shape {
         }
     }
 
-    /// Without the ops that can lose a known bit, and without fills.
+    /// Without the ops that can lose a known bit.
     pub fn keeping_known(self) -> Shape {
-        let is_lossy = |op: &Op| matches!(op, Op::CaseEqual | Op::CasezEqual | Op::CasexEqual | Op::WildcardEqual);
         Shape {
-            ops: self.ops.into_iter().filter(|op| !is_lossy(op)).collect(),
-            has_fills: false,
+            ops: self.ops.into_iter().filter(|op| keeps_known(*op)).collect(),
             ..self
         }
     }

@@ -20,6 +20,11 @@ pub fn operands(op: Op) -> usize {
     }
 }
 
+/// Whether a step of the op keeps known bits: all ops but the case and wildcard comparisons.
+pub fn keeps_known(op: Op) -> bool {
+    !matches!(op, Op::CaseEqual | Op::CasezEqual | Op::CasexEqual | Op::WildcardEqual)
+}
+
 /// The bits of a vector, highest first.
 pub fn digits(v: &Vector) -> String {
     let digit = |i| char::from(b"01xz"[usize::from(v.code(i))]);

@@ -5,5 +5,5 @@ mod list;
 mod machine;
 
 pub use draw::{Drawn, Shape};
-pub use list::{operands, List};
+pub use list::{keeps_known, operands, List};
 pub use machine::{run, Machine, Memory, Ran};

@@ -6,7 +6,7 @@ use native.Mathlib.Omega.{arith}
 use lib.ListN.{length}
 use borrow.Author.Needs.{needs}
 use Rattle.words.specs.declared.Word.{Word}
-use Rattle.words.specs.Vector.{at, Written}
+use Rattle.words.specs.Vector.{at, FilledTo}
 use Rattle.words.specs.Planes.{valueDigit, unknownDigit, wordCount, wordOf, lent}
 use Rattle.words.proofs.Fill.{start, more, plane-done}
 use Rattle.text.specs.Answers.{bitsIn}
@@ -18,8 +18,8 @@ abbrev Inv-loop : tie.InvT-loop
 Inv-loop s place width value₀ unknown₀ left₀ k₀ value unknown left k =
     (k ≤ length value₀)
     × (left ≡ width - k * 64)
-    × Written 0 (wordOf valueDigit (at (bitsIn s place width))) (length value₀) k value
-    × Written 0 (wordOf unknownDigit (at (bitsIn s place width))) (length unknown₀) k unknown
+    × FilledTo 0 (wordOf valueDigit (at (bitsIn s place width))) (length value₀) k value
+    × FilledTo 0 (wordOf unknownDigit (at (bitsIn s place width))) (length unknown₀) k unknown
 
 abbrev μ-loop : tie.MeasureT-loop
 μ-loop s place width value₀ unknown₀ left₀ k₀ value unknown left k = length value₀ - k

@@ -7,7 +7,7 @@ use lib.Bits.{bitAnd}
 use lib.ListN.{getD}
 use Rattle.bit.specs.declared.LogicBit.{LogicBit}
 use Rattle.words.specs.declared.Word.{Word}
-use Rattle.words.specs.Vector.{at, Written}
+use Rattle.words.specs.Vector.{at, FilledTo}
 use Rattle.words.specs.Planes.{valueDigit, unknownDigit, wordCount, fromPlanes, wordOf, lent, wordBy}
 use Rattle.words.proofs.Fill.{more}
 use Rattle.lanes.specs.Lanes.{opBit}
@@ -19,8 +19,8 @@ use Rattle.join.proofs.inner.join_planes.Tie as tie
 
 abbrev Inv-loop : tie.InvT-loop
 Inv-loop op av au bv bu width ov₀ ou₀ x y xb yb k₀ ov ou k =
-    Written 0 (wordOf valueDigit (at (joinedOver op width x (lent av au) y (lent bv bu)))) (wordCount width) k ov
-    × Written 0 (wordOf unknownDigit (at (joinedOver op width x (lent av au) y (lent bv bu)))) (wordCount width) k ou
+    FilledTo 0 (wordOf valueDigit (at (joinedOver op width x (lent av au) y (lent bv bu)))) (wordCount width) k ov
+    × FilledTo 0 (wordOf unknownDigit (at (joinedOver op width x (lent av au) y (lent bv bu)))) (wordCount width) k ou
     × (wordCount width ≤ 67108864)
 
 abbrev μ-loop : tie.MeasureT-loop

@@ -7,7 +7,7 @@ use native.Mathlib.Omega.{arith}
 use lib.ListN.{length, getD}
 use Rattle.words.specs.declared.Word.{Word}
 use Rattle.words.specs.Planes.{wordBy}
-use Rattle.words.specs.Vector.{Written}
+use Rattle.words.specs.Vector.{FilledTo}
 use Rattle.words.proofs.Fill.{start, more}
 use Rattle.lanes.specs.declared.Bitwise.{Bitwise}
 use Rattle.lanes.specs.Lanes.{opBit}
@@ -23,8 +23,8 @@ joins op av au bv bu k = laneWord (opBit op) (wordBy (getD av k 0) (getD au k 0)
 abbrev Inv-loop : tie.InvT-loop
 Inv-loop op av au bv bu ov₀ ou₀ n k₀ ov ou k =
     (k ≤ n)
-    × Written 0 (λ i. joins op av au bv bu i .value) (length ov₀) k ov
-    × Written 0 (λ i. joins op av au bv bu i .unknown) (length ou₀) k ou
+    × FilledTo 0 (λ i. joins op av au bv bu i .value) (length ov₀) k ov
+    × FilledTo 0 (λ i. joins op av au bv bu i .unknown) (length ou₀) k ou
 
 abbrev μ-loop : tie.MeasureT-loop
 μ-loop op av au bv bu ov₀ ou₀ n k₀ ov ou k = n - k

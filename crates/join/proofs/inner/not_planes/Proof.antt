@@ -10,7 +10,7 @@ use Rattle.bit.specs.declared.LogicBit.{LogicBit}
 use Rattle.bit.specs.declared.LogicBit.the-variants.{Zero}
 use Rattle.bit.specs.Rules.{notBit}
 use Rattle.words.specs.declared.Word.{Word}
-use Rattle.words.specs.Vector.{at, tabulate, Written}
+use Rattle.words.specs.Vector.{at, tabulate, FilledTo}
 use Rattle.words.specs.Planes.{valueDigit, unknownDigit, wordCount, fromPlanes, wordOf, lent, planesOf, bitOf, wordBy}
 use Rattle.words.proofs.Digits.{pack-cong, lt-or-ge}
 use Rattle.words.proofs.Planes.{length-tabulate, getD-tabulate, getD-tabulate-out, operand}
@@ -42,8 +42,8 @@ unknown-kept w v u k =
 abbrev Inv-loop : tie.InvT-loop
 Inv-loop width av au ov₀ ou₀ k₀ ov ou k =
     (k ≤ length ov₀)
-    × Written 0 (λ i. inverts av au i .value) (length ov₀) k ov
-    × Written 0 (wordOf unknownDigit (at (result width av au))) (length ou₀) k ou
+    × FilledTo 0 (λ i. inverts av au i .value) (length ov₀) k ov
+    × FilledTo 0 (wordOf unknownDigit (at (result width av au))) (length ou₀) k ou
 
 abbrev μ-loop : tie.MeasureT-loop
 μ-loop width av au ov₀ ou₀ k₀ ov ou k = length ov₀ - k

@@ -22,11 +22,11 @@ same-length c = search needs
 returns : tie.Need-returns Inv-loop μ-loop
 returns c = search needs
 
-mul-word-from : tie.Need-mul-word-from Inv-loop μ-loop
-mul-word-from c = search needs
+mul-word-of : tie.Need-mul-word-of Inv-loop μ-loop
+mul-word-of c = search needs
 
-word-from-requires : tie.Need-word-from-requires Inv-loop μ-loop
-word-from-requires c κs = search needs
+word-of-requires : tie.Need-word-of-requires Inv-loop μ-loop
+word-of-requires c κs = search needs
 
 mul-plane : tie.Need-mul-plane Inv-loop μ-loop
 mul-plane c = search needs
@@ -58,8 +58,8 @@ load-spec =
     loop-holds
     same-length
     returns
-    mul-word-from
-    word-from-requires
+    mul-word-of
+    word-of-requires
     mul-plane
     slice-write-plane
     add-k

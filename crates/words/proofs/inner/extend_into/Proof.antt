@@ -8,7 +8,7 @@ use lib.Bits.{bitAnd}
 use lib.ListN.{length, getD}
 use Rattle.bit.specs.declared.LogicBit.{LogicBit}
 use Rattle.words.specs.declared.Word.{Word}
-use Rattle.words.specs.Vector.{tabulate, at, Written}
+use Rattle.words.specs.Vector.{tabulate, at, FilledTo}
 use Rattle.words.specs.Planes.{valueDigit, unknownDigit, wordCount, fromPlanes, wordOf}
 use Rattle.words.specs.Planes.{lent}
 use Rattle.words.proofs.Planes.{length-tabulate, value-digit-lt, unknown-digit-lt}
@@ -24,8 +24,8 @@ vector w v u from b = tabulate w (λ i. getD (fromPlanes from v u) i b)
 abbrev Inv-loop : tie.InvT-loop
 Inv-loop width value₀ unknown₀ from-value from-unknown from-width beyond k₀ value unknown k =
     (k ≤ length value₀)
-    × Written 0 (wordOf valueDigit (at (vector width from-value from-unknown from-width beyond))) (length value₀) k value
-    × Written 0 (wordOf unknownDigit (at (vector width from-value from-unknown from-width beyond))) (length unknown₀) k unknown
+    × FilledTo 0 (wordOf valueDigit (at (vector width from-value from-unknown from-width beyond))) (length value₀) k value
+    × FilledTo 0 (wordOf unknownDigit (at (vector width from-value from-unknown from-width beyond))) (length unknown₀) k unknown
 
 abbrev μ-loop : tie.MeasureT-loop
 μ-loop width value₀ unknown₀ from-value from-unknown from-width beyond k₀ value unknown k = length value₀ - k

@@ -4,14 +4,14 @@ use Prim.Native.Nat.{_-_}
 use native.Mathlib.Omega.{arith}
 use lib.ListN.{length, getD}
 use lib.Seq.{ext-getD}
-use Rattle.words.specs.Vector.{Written}
+use Rattle.words.specs.Vector.{FilledTo}
 use Rattle.words.proofs.Fill.{start, more}
 use borrow.Author.Needs.{needs}
 use Rattle.work.proofs.inner.copy_words.Statement.{statement}
 use Rattle.work.proofs.inner.copy_words.Tie as tie
 
 abbrev Inv-loop : tie.InvT-loop
-Inv-loop from to₀ k₀ to k = Written 0 (λ i. getD from i 0) (length to₀) k to
+Inv-loop from to₀ k₀ to k = FilledTo 0 (λ i. getD from i 0) (length to₀) k to
 
 abbrev μ-loop : tie.MeasureT-loop
 μ-loop from to₀ k₀ to k = length to₀ - k

@@ -1,12 +1,12 @@
--- `planes::check_planes`: the lengths are accepted, then each plane's last word tells.
+-- `planecheck::check_planes`: the lengths are accepted, then each plane's last word tells.
 use mathlib.Core.Path.{_≡_, sym, ap, _∙_}
 use borrow.Author.Tests.{not-true, not-false}
 use Rattle.refusal.specs.Outcome.{Answer, after, verdict}
-use Rattle.planes.specs.Entries.{checkPlanes}
-use Rattle.planes.proofs.Checks.{lengths-accepted}
+use Rattle.planecheck.specs.PlaneCheck.{checkPlanes}
+use Rattle.planecheck.proofs.Checks.{lengths-accepted}
 use borrow.Author.Needs.{needs}
-use Rattle.planes.proofs.check_planes.Statement.{statement}
-use Rattle.planes.proofs.check_planes.Tie as tie
+use Rattle.planecheck.proofs.check_planes.Statement.{statement}
+use Rattle.planecheck.proofs.check_planes.Tie as tie
 
 check-lengths-requires : tie.Need-check-lengths-requires
 check-lengths-requires c κs = search needs

@@ -1,8 +1,8 @@
 -- The invariant: the index is at most 64.
 use Prim.Native.Nat.{_≤_, _-_}
 use borrow.Author.Needs.{needs}
-use Rattle.replay.proofs.text.word_from.Statement.{statement}
-use Rattle.replay.proofs.text.word_from.Tie as tie
+use Rattle.replay.proofs.text.word_of.Statement.{statement}
+use Rattle.replay.proofs.text.word_of.Tie as tie
 
 abbrev Inv-loop : tie.InvT-loop
 Inv-loop bits divisor i word₀ j₀ word j = j ≤ 64
@@ -34,8 +34,8 @@ loop-again c = search needs
 returns : tie.Need-returns Inv-loop μ-loop
 returns c = search needs
 
-pub word-from-spec : {M : Type 1} → statement M
-word-from-spec =
+pub word-of-spec : {M : Type 1} → statement M
+word-of-spec =
     tie.close
     (tie.spec
     Inv-loop

@@ -1,10 +1,10 @@
--- `planes::check_lengths`: each return rewrites with the tests on the way.
+-- `planecheck::check_lengths`: each return rewrites with the tests on the way.
 use mathlib.Core.Path.{_∙_, sym}
 use borrow.Author.Tests.{lt-ltb, le-ltb, eq-eqb, ne-eqb}
-use Rattle.planes.specs.Entries.{checkLengths}
+use Rattle.planecheck.specs.PlaneCheck.{checkLengths}
 use borrow.Author.Needs.{needs}
-use Rattle.planes.proofs.check_lengths.Statement.{statement}
-use Rattle.planes.proofs.check_lengths.Tie as tie
+use Rattle.planecheck.proofs.check_lengths.Statement.{statement}
+use Rattle.planecheck.proofs.check_lengths.Tie as tie
 
 returns : tie.Need-returns
 unfolding checkLengths

@@ -1,4 +1,4 @@
--- What a scan of a list by words of 64 places knows (document 01, "Planes", has 64 bits in a word): for the inner functions that reduce and compare.
+-- What a scan of a list by words of 64 places knows, for the functions that reduce and compare.
 use mathlib.Core.Path.{_≡_}
 use mathlib.Core.Bool.{Bool, false, not, _||_}
 use mathlib.Core.List.{List}

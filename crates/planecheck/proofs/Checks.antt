@@ -10,7 +10,7 @@ use Rattle.refusal.specs.Outcome.{Answer, after}
 use Rattle.refusal.specs.Outcome.Answer.{given, refused}
 use Rattle.words.specs.Planes.{wordCount, clearAbove, Plane}
 use Rattle.words.specs.Planes.{Planes}
-use Rattle.planes.specs.Entries.{maxWidth, exactly, checkLengths, checkPlanes}
+use Rattle.planecheck.specs.PlaneCheck.{maxWidth, exactly, checkLengths, checkPlanes}
 use Rattle.words.proofs.Top.{all-clear}
 
 pub exactly-accepted : (n : ℕ) (p : Planes) (k : ℕ) → exactly n p k ≡ given tt → (length (p .value) ≡ n) × (length (p .unknown) ≡ n)
