@@ -101,13 +101,15 @@ fn known_exactly_where_completions_agree() {
     let mut draws = Draws::new(6_000, 55);
     let mut runs = Runs::new();
     let mut steps = [0; 17];
+    let (mut with_fills, mut of_two_widths) = (0, 0);
     for _ in 0..draws.count {
         let rng = &mut draws.rng;
         let shape = Shape::short(rng).keeping_known();
         let drawn = rng.list(&shape);
         let memory = rng.memory([drawn.words; 2], [1; 2]);
         let left = runs.run(drawn.list.text().as_bytes(), &memory);
-        for (k, step) in drawn.list.steps.iter().enumerate() {
+        let ran = left.store.count - drawn.list.inputs.len();
+        for (k, step) in drawn.list.steps.iter().take(ran).enumerate() {
             let nothing = Small {
                 width: 0,
                 is_signed: false,
@@ -126,10 +128,17 @@ fn known_exactly_where_completions_agree() {
             let want = agreed(*step, operands).map(|bits| bits & low_bits(got.width));
             assert_eq!(is, want, "the known ones and zeros of step {} of\n{}", k + 1, drawn.list.text());
             steps[usize::from(step.op.code())] += 1;
+            with_fills += usize::from(operands.iter().any(|v| v.is_fill));
+            of_two_widths += usize::from(step.op == Op::Equal && operands[0].width != operands[1].width);
         }
     }
-    runs.expect(&[("done", draws.count)]);
+    runs.expect(&draws.endings([("done", 5_900)]));
+    assert!(with_fills > draws.share(1_000), "{with_fills} steps on fills");
+    assert!(of_two_widths > draws.share(100), "{of_two_widths} equalities of two widths");
     for op in Op::ALL {
-        assert!(!keeps_known(op) || steps[usize::from(op.code())] > draws.share(500), "{steps:?} steps");
+        assert!(
+            !keeps_known(op) || steps[usize::from(op.code())] > draws.share(500),
+            "{steps:?} steps"
+        );
     }
 }
