@@ -1,8 +1,8 @@
 -- Putting the low digits of a word into a plane at any bit: the one word, or the two, that `splice_plane` writes.
 --     low-word, high-word           the digits put into the word at the place, and into the next one
 --     spliced-one, spliced-two      the plane that is left where one word is written, or two
-use mathlib.Core.Path.{_≡_, refl, sym, ap, ap₂, _∙_}
-use mathlib.Core.Bool.{Bool, true, false, _&&_, cond}
+use mathlib.Core.Path.{_≡_, sym, ap, ap₂, _∙_}
+use mathlib.Core.Bool.{Bool, false, _&&_, cond}
 use mathlib.Core.Logic.{_⊎_, inl, inr, ⊎-elim}
 use mathlib.Core.List.{List}
 use Prim.Native.Nat.{ℕ, _+_, _-_, _*_, _/_, _%_, _^_, _≤_, _<_}
@@ -11,7 +11,7 @@ use borrow.Author.Tests.{lt-ltb, le-ltb, le-leb, lt-leb}
 use lib.Dec.{eqb, ltb, leb}
 use lib.ListN.{length, getD, set, length-set}
 use lib.Seq.{getD-set-same, getD-set-other}
-use Rattle.words.specs.Vector.{bitAt, tabulate, pack}
+use Rattle.words.specs.Vector.{bitAt, pack}
 use Rattle.words.specs.Planes.{planeBit}
 use Rattle.bits.specs.Bits.{within, splicedPlane}
 use Rattle.words.proofs.Digits.{bit-shr, pack-ext, pack-cong, lt-or-ge}

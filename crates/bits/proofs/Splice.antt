@@ -7,20 +7,19 @@ use mathlib.Core.Path.{_≡_, refl, sym, ap, ap₂, _∙_}
 use mathlib.Core.Bool.{Bool, true, false, _&&_, cond}
 use mathlib.Core.Logic.{_⊎_, inl, inr, ⊎-elim}
 use mathlib.Core.List.{List}
-use Prim.Native.Nat.{ℕ, _+_, _-_, _*_, _/_, _%_, _^_, _≤_, _<_, min}
+use Prim.Native.Nat.{ℕ, _+_, _-_, _*_, _^_, _≤_, _<_, min}
 use native.Mathlib.Omega.{arith}
 use borrow.Author.Tests.{lt-ltb, le-ltb, le-leb, lt-leb}
-use lib.Dec.{ltb, leb}
-use lib.ListN.{length, getD, set, length-set, List·getD-eq-default}
+use lib.Dec.{ltb}
+use lib.ListN.{length, getD, set, length-set}
 use lib.Seq.{getD-set-same, getD-set-other, set-out}
 use lib.Bits.{bitAnd}
 use Rattle.bit.specs.declared.LogicBit.{LogicBit}
 use Rattle.bit.specs.declared.LogicBit.the-variants.{Zero}
 use Rattle.words.specs.declared.Word.{Word}
 use Rattle.words.specs.Vector.{bitAt, tabulate, pack, at}
-use Rattle.words.specs.Planes.{valueDigit, unknownDigit, stored, wordCount, planeBit, fromPlanes, wordOf, planeOf, packed, bitOf, Plane}
-use Rattle.words.specs.Planes.{Planes, lent, planesOf}
-use Rattle.bits.specs.Bits.{within, spliceCount, spliced, splicedPlane, extracted}
+use Rattle.words.specs.Planes.{valueDigit, unknownDigit, stored, wordCount, planeBit, fromPlanes, wordOf, planeOf, packed, bitOf, Plane, lent, planesOf}
+use Rattle.bits.specs.Bits.{within, spliceCount, spliced, splicedPlane}
 use Rattle.words.proofs.Digits.{bit-lt, pack-bit, pack-cong, lt-or-ge}
 use Rattle.words.proofs.Planes.{length-tabulate, getD-tabulate, getD-tabulate-out, eq-tabulate, value-digit-lt, unknown-digit-lt, stored-bit, value-again, unknown-again, whole}
 use Rattle.words.proofs.Extend.{cut}

@@ -2,19 +2,17 @@
 use mathlib.Core.Path.{_≡_, refl, sym, ap, ap₂, _∙_}
 use mathlib.Core.Logic.{⊎-elim}
 use mathlib.Core.List.{List, [], _∷_}
-use Prim.Native.Nat.{ℕ, _/_, _%_, _^_, _<_, _≤_}
+use Prim.Native.Nat.{ℕ, _^_, _<_}
 use native.Mathlib.Nat.{div-eq-of-lt, mod-eq-of-lt}
-use native.Mathlib.Omega.{arith}
 use lib.ListN.{getD}
 use Rattle.bit.specs.declared.LogicBit.{LogicBit}
 use Rattle.bit.specs.declared.LogicBit.the-variants.{Zero}
 use Rattle.refusal.specs.Outcome.{Answer, outcome, orRefuse}
 use Rattle.refusal.specs.Outcome.Answer.{given}
 use Rattle.words.specs.Vector.{bitAt, tabulate}
-use Rattle.words.specs.Planes.{Planes, planesOf}
+use Rattle.words.specs.Planes.{Planes, planesOf, fromPlanes, stored, planeBit}
 use Rattle.value.specs.Checks.{plain, checkOutput}
 use Rattle.constructors.specs.Constructors.{clamped, constructed}
-use Rattle.words.specs.Planes.{fromPlanes, stored, planeBit}
 use Rattle.words.proofs.Digits.{bit-above, bit-of-zero, lt-or-ge}
 use Rattle.words.proofs.Planes.{getD-tabulate, getD-tabulate-out}
 

@@ -1,5 +1,4 @@
 -- Document 01, "Header and operand": the constructors. Each writes its planes whole and gives the header, or refuses by 5.
-use mathlib.Core.List.{List}
 use Prim.Native.Nat.{ℕ, min}
 use Rattle.bit.specs.declared.LogicBit.{LogicBit}
 use Rattle.bit.specs.declared.LogicBit.the-variants.{Zero, X}

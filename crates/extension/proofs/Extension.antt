@@ -14,8 +14,7 @@ use lib.ListN.{getD}
 use Rattle.bit.specs.declared.LogicBit.{LogicBit}
 use Rattle.bit.specs.declared.LogicBit.the-variants.{Zero}
 use Rattle.words.specs.Vector.{at, tabulate}
-use Rattle.words.specs.Planes.{fromPlanes}
-use Rattle.words.specs.Planes.{lent}
+use Rattle.words.specs.Planes.{fromPlanes, lent}
 use Rattle.value.specs.declared.Header.{Header}
 use Rattle.extension.specs.declared.Extent.{Extent}
 use Rattle.extension.specs.declared.Operator.{Operator}

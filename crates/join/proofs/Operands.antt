@@ -20,9 +20,8 @@ use Rattle.value.specs.Checks.{vector}
 use Rattle.extension.specs.Extension.{operandAt, extentOf}
 use Rattle.extension.proofs.Extension.{extent-at, extent-narrow}
 use Rattle.lanes.specs.declared.Bitwise.{Bitwise}
-use Rattle.lanes.specs.Lanes.{opBit}
+use Rattle.lanes.specs.Lanes.{opBit, laneWord}
 use Rattle.join.specs.Joined.{operator, joined}
-use Rattle.lanes.specs.Lanes.{laneWord}
 use Rattle.lanes.proofs.Places.{direct, whole-word}
 
 -- the rule at each place of two operands that are read by their extents, at width w

@@ -6,7 +6,7 @@
 --     at-more           what holds of all cells holds with one more
 --     step-sound, run-sound     each cell of a step and of a run has as many bits as its header says, if the cells before do
 use mathlib.Core.Path.{_≡_, refl, sym, _∙_, subst, ap}
-use mathlib.Core.Bool.{Bool, true, false, not, cond}
+use mathlib.Core.Bool.{Bool, true, false, cond}
 use mathlib.Core.List.{List, [], _∷_, _++_, append-assoc, append-nil}
 use Prim.Native.Nat.{ℕ, zero, suc}
 use native.Mathlib.Omega.{arith}
@@ -16,11 +16,9 @@ use Rattle.refusal.specs.Outcome.{Answer, after}
 use Rattle.refusal.specs.Outcome.Answer.{given, refused}
 use Rattle.value.specs.declared.Header.{Header}
 use Rattle.value.specs.Checks.{Vector}
-use Rattle.ops.specs.declared.Op.{Op}
 use Rattle.ops.specs.declared.Step.{Step}
-use Rattle.ops.specs.declared.Family.{Family}
 use Rattle.ops.specs.declared.Family.the-variants as family
-use Rattle.ops.specs.Ops.{familyOf, armsRefused, familyHeader, opHeader, opVector}
+use Rattle.ops.specs.Ops.{armsRefused, opHeader}
 use Rattle.ops.proofs.Results.{result-width}
 use Rattle.machine.specs.Machine.{Room, headersOf, noVector, cellAt, headerAt, checkCount, checkNames, checkRoom, checkScratch, stepHeader, checkStep, stepCell, Run, onward, runFrom}
 use Rattle.knownness.specs.Knownness.{AllSound}

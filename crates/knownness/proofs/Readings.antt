@@ -124,10 +124,10 @@ of-operand op b i =
 
 -- ---- a reduction
 
-pub no-bits : Listwise Completes [] []
+no-bits : Listwise Completes [] []
 no-bits = (refl, λ i. (tt, λ k. refl))
 
-pub one-more : (x y : LogicBit) (xs ys : List LogicBit) → Completes x y → Listwise Completes xs ys → Listwise Completes (x ∷ xs) (y ∷ ys)
+one-more : (x y : LogicBit) (xs ys : List LogicBit) → Completes x y → Listwise Completes xs ys → Listwise Completes (x ∷ xs) (y ∷ ys)
 one-more x y xs ys h t = (ap suc (t .0), go)
   where
     go : (i : ℕ) → Completes (at (x ∷ xs) i) (at (y ∷ ys) i)

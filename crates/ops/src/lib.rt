@@ -3,7 +3,7 @@ use lanes::Bitwise;
 use scan::Comparison;
 use value::Header;
 ghost use mathlib.Core.Path.{_≡_};
-ghost use Rattle.ops.specs.Ops.{familyOf, operands, armsDiffer, armsRefused, opHeader};
+ghost use Rattle.ops.specs.Ops.{familyOf, operands, armsRefused, opHeader};
 
 // The ops of a step list.
 pub enum Op {

@@ -8,8 +8,7 @@ use lib.Dec.{T, eqb, ltb}
 use lib.ListN.{length}
 use Rattle.refusal.specs.Outcome.{Answer, after}
 use Rattle.refusal.specs.Outcome.Answer.{given, refused}
-use Rattle.words.specs.Planes.{wordCount, clearAbove, Plane}
-use Rattle.words.specs.Planes.{Planes}
+use Rattle.words.specs.Planes.{wordCount, clearAbove, Plane, Planes}
 use Rattle.planecheck.specs.PlaneCheck.{maxWidth, exactly, checkLengths, checkPlanes}
 use Rattle.words.proofs.Top.{all-clear}
 

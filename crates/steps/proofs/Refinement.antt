@@ -1,7 +1,7 @@
 -- Demand 3: each run is the plain machine's, of which the laws of `knownness` speak; and so of the lists that texts say.
 use mathlib.Core.Path.{_≡_, refl, sym, ap, _∙_, subst}
 use mathlib.Core.List.{List, [], _∷_}
-use Prim.Native.Nat.{ℕ, zero, suc, min}
+use Prim.Native.Nat.{zero, suc, min}
 use lib.ListN.{length}
 use Rattle.text.specs.Exact.{All}
 use Rattle.value.specs.Checks.{Vector}

@@ -8,8 +8,7 @@ use Rattle.refusal.specs.Refusals.{refusalNumber}
 use Rattle.refusal.specs.Outcome.{Answer, Outcome, outcome, after, orRefuse}
 use Rattle.refusal.specs.Outcome.Answer.{given, refused}
 use Rattle.bit.specs.declared.LogicBit.{LogicBit}
-use Rattle.words.specs.Planes.{wordCount, vectorOf, planesOf}
-use Rattle.words.specs.Planes.{Planes}
+use Rattle.words.specs.Planes.{wordCount, vectorOf, planesOf, Planes}
 use Rattle.planecheck.specs.PlaneCheck.{exactly, checkPlanes}
 use Rattle.value.specs.declared.Header.{Header}
 use Rattle.value.specs.declared.Operand.{Operand}

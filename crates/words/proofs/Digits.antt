@@ -4,9 +4,9 @@
 --     bit-ones, bit-mod, bit-above, bit-mod-above     a mask, the k low digits, the digits above a bound
 --     pack-ext, pack-bit, pack-lt, pack-cong    a word is made of its bits
 --     word-ext      two words of n digits that agree at each digit are equal
-use mathlib.Core.Path.{_≡_, refl, sym, ap, ap₂, _∙_, subst}
+use mathlib.Core.Path.{_≡_, refl, sym, ap, ap₂, _∙_}
 use Prim.Native.Nat.{ℕ, zero, suc, _+_, _-_, _*_, _/_, _%_, _^_, _≤_, _<_, min, max, zero-le, suc-le-suc}
-use native.Mathlib.Nat.{mod-lt, div-one, le-of-suc-le-suc, not-suc-le-zero, zero-lt-suc, div-add-mod', pow-suc, div-eq-of-lt, lt-of-lt-of-le, lt-of-le-of-lt, min-le-left, max-le, zero-mod, mod-eq-of-lt, mul-assoc, mul-mod-left}
+use native.Mathlib.Nat.{mod-lt, div-one, le-of-suc-le-suc, not-suc-le-zero, zero-lt-suc, div-add-mod', pow-suc, div-eq-of-lt, lt-of-lt-of-le, mod-eq-of-lt, mul-assoc, mul-mod-left}
 use mathlib.Core.Logic.{_⊎_, inl, inr, ⊎-elim}
 use native.Mathlib.Numerals.{one-add, add-one}
 use native.Mathlib.Omega.{arith}

@@ -2,7 +2,7 @@
 -- So an operator on words is right where one test, computed over the sixteen pairs of bits, passes (`lane`).
 use mathlib.Core.Path.{_≡_, refl, sym, ap, ap₂, _∙_}
 use mathlib.Core.Bool.{Bool}
-use Prim.Native.Nat.{ℕ, zero, suc, _+_, _-_, _*_, _^_, _<_, min, max}
+use Prim.Native.Nat.{ℕ, _-_, _^_, _<_, min, max}
 use lib.Dec.{T, eqb, eqb→eq}
 use lib.Pow.{pow-pos, ones-sub-lt}
 use lib.Bits.{bitAnd, bitOr, bitXor, differ, and-lt, or-lt, xor-lt}

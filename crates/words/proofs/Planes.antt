@@ -4,10 +4,10 @@
 --     bits-again    the vector that a vector's planes hold is that vector
 --     value-plane, unknown-plane     the planes of a vector are well formed
 --     word-count    the larger of 1 and the width divided by 64, rounded up
-use mathlib.Core.Path.{_≡_, refl, sym, ap, ap₂, _∙_, subst}
+use mathlib.Core.Path.{_≡_, refl, sym, ap, ap₂, _∙_}
 use mathlib.Core.Logic.{⊎-elim, _⊎_}
-use mathlib.Core.List.{List, [], _∷_}
-use Prim.Native.Nat.{ℕ, zero, suc, _+_, _-_, _*_, _/_, _%_, _^_, _≤_, _<_, max, suc-le-suc}
+use mathlib.Core.List.{List}
+use Prim.Native.Nat.{ℕ, zero, suc, _+_, _-_, _*_, _/_, _%_, _^_, _≤_, _<_, max}
 use native.Mathlib.Nat.{not-suc-le-zero, le-of-suc-le-suc, mod-lt, div-add-mod', zero-lt-suc}
 use native.Mathlib.Omega.{arith}
 use lib.Arith.{digits-div, digits-mod}
@@ -16,9 +16,9 @@ use lib.Seq.{ext-getD}
 use lib.Dec.{lit<}
 use Rattle.bit.specs.declared.LogicBit.{LogicBit}
 use Rattle.bit.specs.declared.LogicBit.the-variants.{Zero, One, X, Z}
-use Rattle.words.specs.Vector.{tabulate, at, bitAt, pack}
+use Rattle.words.specs.Vector.{tabulate, at, bitAt}
 use Rattle.words.specs.Planes.{valueDigit, unknownDigit, stored, wordCount, planeBit, fromPlanes, wordOf, planeOf, valuePlane, unknownPlane, Plane}
-use Rattle.words.proofs.Digits.{pack-ext, pack-bit, pack-lt, bit-lt, bit-of-zero, lt-or-ge}
+use Rattle.words.proofs.Digits.{pack-ext, pack-bit, bit-lt, bit-of-zero, lt-or-ge}
 
 -- ---- tabulate
 

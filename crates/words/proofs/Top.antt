@@ -14,8 +14,7 @@ use lib.Pow.{ones-lt, ones-sub-lt, pow-pos}
 use lib.Bits.{bitAnd, and-lt}
 use Rattle.bit.proofs.Tests.{and-left, and-right, and-intro, bool-ext}
 use Rattle.words.specs.Vector.{bitAt, pack}
-use Rattle.words.specs.Planes.{wordCount, planeBit, planeDigits, allZero, clearAbove, cleared}
-use Rattle.words.specs.Planes.{masked}
+use Rattle.words.specs.Planes.{wordCount, planeBit, planeDigits, allZero, clearAbove, cleared, masked}
 use Rattle.words.proofs.Digits.{bit-and, bit-not, bit-ones, bit-above, bit-lt, bit-of-zero, pack-ext, word-ext, lt-or-ge}
 use Rattle.words.proofs.Planes.{getD-tabulate, getD-tabulate-out, eq-tabulate, plane-bit}
 use Rattle.words.proofs.Extend.{cut, mask-lt}

@@ -18,12 +18,11 @@ use words::inner::filled;
 use words::inner::operand_word;
 ghost use mathlib.Core.Path.{_≡_};
 ghost use mathlib.Core.Bool.{false};
-ghost use mathlib.Core.List.{[], _∷_};
 ghost use lib.ListN.{length};
 ghost use Rattle.words.specs.Planes.{wordCount, bitOf, lent, planesOf, Plane};
 ghost use Rattle.value.specs.Checks.{vector};
-ghost use Rattle.fold.specs.Fold.{truthOf, truthBit};
-ghost use Rattle.ops.specs.Ops.{armsRefused, opHeader, answerBit, selected, inserted, opBits};
+ghost use Rattle.fold.specs.Fold.{truthBit};
+ghost use Rattle.ops.specs.Ops.{armsRefused, opHeader, answerBit, opBits};
 
 // Copies the words of a plane into another of the same length.
 fn copy_words(from: &[u64], to: &mut [u64])

@@ -1,9 +1,8 @@
 -- `bit::from_code`: the four cases of the remainder by 4.
-use mathlib.Core.Path.{_≡_, refl, sym, ap, _∙_}
+use mathlib.Core.Path.{_≡_, refl, sym, ap}
 use Prim.Native.Nat.{ℕ, zero, suc, _%_}
 use Rattle.bit.specs.Rules.{ofSmallCode}
 use Rattle.bit.specs.declared.LogicBit.the-variants.{Z}
-use borrow.Author.Needs.{needs}
 use Rattle.bit.proofs.from_code.Statement.{statement}
 use Rattle.bit.proofs.from_code.Tie as tie
 

@@ -1,10 +1,9 @@
 -- `bitwise::bitwise_not`: refused as checked, else inverted.
-use mathlib.Core.Path.{_≡_, sym, ap, _∙_}
+use mathlib.Core.Path.{sym, ap, _∙_}
 use Rattle.refusal.specs.Outcome.{outcome, verdict}
 use Rattle.refusal.specs.Outcome.Answer.{given}
 use Rattle.words.specs.Planes.{Planes, lent}
 use Rattle.planecheck.proofs.Checks.{exactly-accepted}
-use Rattle.value.specs.declared.Header.{Header}
 use Rattle.value.specs.Checks.{checkOutput}
 use Rattle.value.proofs.Checks.{vector-accepted}
 use Rattle.bitwise.specs.Bitwise.{notHeader}

@@ -1,17 +1,11 @@
 -- `constructors::construct`: refused as checked, else written whole.
-use Rattle.words.specs.Planes.{fromPlanes}
-use Rattle.words.specs.Planes.{lent}
-use Rattle.bit.specs.declared.LogicBit.{LogicBit}
+use Rattle.words.specs.Planes.{lent, Planes}
 use Rattle.constructors.proofs.Constructors.{by-check}
-use mathlib.Core.List.{[], _∷_}
-use lib.ListN.{getD}
 use Rattle.value.specs.declared.Header.{Header}
-use mathlib.Core.Path.{_≡_, sym, ap, ap₂, _∙_}
-use Prim.Native.Nat.{ℕ}
+use mathlib.Core.Path.{sym, ap, ap₂, _∙_}
 use native.Mathlib.Omega.{arith}
-use Rattle.refusal.specs.Outcome.{Answer, outcome, orRefuse, verdict}
+use Rattle.refusal.specs.Outcome.{outcome, verdict}
 use Rattle.refusal.specs.Outcome.Answer.{given}
-use Rattle.words.specs.Planes.{Planes}
 use Rattle.planecheck.proofs.Checks.{exactly-accepted}
 use Rattle.value.specs.Checks.{checkOutput}
 use borrow.Author.Needs.{needs}

@@ -5,7 +5,7 @@ use Rattle.bit.specs.declared.LogicBit.{LogicBit}
 use Rattle.words.specs.Planes.{lent}
 use Rattle.constructors.specs.Constructors.{constructed}
 use Rattle.constructors.proofs.Constructors.{constant}
-use mathlib.Core.Path.{_≡_, ap, _∙_}
+use mathlib.Core.Path.{ap, _∙_}
 use borrow.Author.Needs.{needs}
 use Rattle.constructors.proofs.zero.Statement.{statement}
 use Rattle.constructors.proofs.zero.Tie as tie

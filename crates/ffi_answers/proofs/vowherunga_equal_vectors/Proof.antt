@@ -1,6 +1,6 @@
 -- The answer is coded by `bit_result`, and a comparison of two vectors is their equality.
 use borrow.Author.Needs.{needs}
-use mathlib.Core.Path.{_≡_, ap, _∙_}
+use mathlib.Core.Path.{ap, _∙_}
 use Rattle.words.specs.Planes.{lent}
 use Rattle.compare.proofs.Reals.{vectors}
 use Rattle.coded.specs.Coded.{codedBit}

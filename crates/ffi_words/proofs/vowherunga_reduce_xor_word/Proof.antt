@@ -1,6 +1,6 @@
 -- The code of the bit that the word form gives.
 use borrow.Author.Needs.{needs}
-use mathlib.Core.Path.{_≡_, ap, _∙_}
+use mathlib.Core.Path.{ap, _∙_}
 use Rattle.bit.specs.Rules.{code}
 use Rattle.ffi_words.proofs.vowherunga_reduce_xor_word.Statement.{statement}
 use Rattle.ffi_words.proofs.vowherunga_reduce_xor_word.Tie as tie

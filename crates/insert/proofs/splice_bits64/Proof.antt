@@ -2,7 +2,7 @@
 use mathlib.Core.Bool.{Bool}
 use Rattle.refusal.specs.Outcome.Answer.{given}
 use Rattle.words.specs.Planes.{Planes, lent}
-use mathlib.Core.Path.{_≡_, sym, ap, ap₂, _∙_}
+use mathlib.Core.Path.{sym, ap, ap₂, _∙_}
 use Rattle.refusal.specs.Outcome.{outcome, verdict}
 use Rattle.value.proofs.Checks.{vector-accepted}
 use borrow.Author.Needs.{needs}

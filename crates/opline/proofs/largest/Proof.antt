@@ -2,7 +2,7 @@
 use mathlib.Core.Path.{_≡_, sym, ap, _∙_}
 use mathlib.Core.Logic.{⊎-elim}
 use borrow.Author.Tests.{lt-ltb, le-ltb}
-use Rattle.ops.specs.Ops.{familyOf, familyOperands}
+use Rattle.ops.specs.Ops.{familyOperands}
 use Rattle.opline.specs.OpLine.{familyUses, uses}
 use borrow.Author.Needs.{needs}
 use Rattle.opline.proofs.largest.Statement.{statement}

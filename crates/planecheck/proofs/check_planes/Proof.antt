@@ -1,7 +1,7 @@
 -- `planecheck::check_planes`: the lengths are accepted, then each plane's last word tells.
-use mathlib.Core.Path.{_≡_, sym, ap, _∙_}
+use mathlib.Core.Path.{sym, ap, _∙_}
 use borrow.Author.Tests.{not-true, not-false}
-use Rattle.refusal.specs.Outcome.{Answer, after, verdict}
+use Rattle.refusal.specs.Outcome.{verdict}
 use Rattle.planecheck.specs.PlaneCheck.{checkPlanes}
 use Rattle.planecheck.proofs.Checks.{lengths-accepted}
 use borrow.Author.Needs.{needs}

@@ -1,5 +1,5 @@
 -- `planes::get`: refused as checked, else by the inner function.
-use mathlib.Core.Path.{_≡_, sym, ap, _∙_}
+use mathlib.Core.Path.{sym, ap, _∙_}
 use Rattle.refusal.specs.Outcome.{verdict}
 use Rattle.planecheck.proofs.Checks.{planes-accepted}
 use borrow.Author.Needs.{needs}

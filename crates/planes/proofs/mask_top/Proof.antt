@@ -1,7 +1,7 @@
 -- `planes::mask_top`: refused as checked, else each plane is masked.
 use Rattle.refusal.specs.Outcome.Answer.{given}
-use Rattle.words.specs.Planes.{Planes, lent}
-use mathlib.Core.Path.{_≡_, sym, ap, ap₂, _∙_}
+use Rattle.words.specs.Planes.{lent}
+use mathlib.Core.Path.{sym, ap, ap₂, _∙_}
 use mathlib.Core.List.{List}
 use Prim.Native.Nat.{ℕ}
 use Rattle.refusal.specs.Outcome.{outcome, verdict}

@@ -1,10 +1,9 @@
 -- `planes::set`: refused as checked, else one bit is put in.
 use Rattle.refusal.specs.Outcome.Answer.{given}
-use Rattle.words.specs.Planes.{fromPlanes}
-use Rattle.words.specs.Planes.{Planes, planesOf}
+use Rattle.words.specs.Planes.{fromPlanes, Planes, planesOf}
 use Rattle.bits.specs.Bits.{spliced}
 use Rattle.bits.proofs.Splice.{set-spliced}
-use mathlib.Core.Path.{_≡_, sym, ap, _∙_}
+use mathlib.Core.Path.{sym, ap, _∙_}
 use Rattle.refusal.specs.Outcome.{outcome, verdict}
 use Rattle.planecheck.proofs.Checks.{planes-accepted}
 use borrow.Author.Needs.{needs}

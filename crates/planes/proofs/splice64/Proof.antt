@@ -1,7 +1,7 @@
 -- `planes::splice64`: refused as checked, else by the inner function.
 use Rattle.refusal.specs.Outcome.Answer.{given}
 use Rattle.words.specs.Planes.{Planes}
-use mathlib.Core.Path.{_≡_, sym, ap, _∙_}
+use mathlib.Core.Path.{sym, ap, _∙_}
 use Rattle.refusal.specs.Outcome.{outcome, verdict}
 use Rattle.planecheck.proofs.Checks.{planes-accepted}
 use borrow.Author.Needs.{needs}

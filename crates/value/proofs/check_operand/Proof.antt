@@ -1,5 +1,4 @@
 -- `value::check_operand`: by the operand's two cases.
-use mathlib.Core.Path.{sym, ap, _∙_}
 use borrow.Author.Tests.{eq-eqb, ne-eqb}
 use Rattle.value.specs.Checks.{checkOperand}
 use borrow.Author.Needs.{needs}

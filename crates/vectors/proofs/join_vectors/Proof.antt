@@ -1,6 +1,6 @@
 -- `vectors::join_vectors`: refused as checked, else joined.
-use mathlib.Core.Path.{_≡_, sym, ap, ap₂, _∙_}
-use Rattle.refusal.specs.Outcome.{Answer, outcome, verdict}
+use mathlib.Core.Path.{sym, ap, ap₂, _∙_}
+use Rattle.refusal.specs.Outcome.{outcome, verdict}
 use Rattle.refusal.specs.Outcome.Answer.{given}
 use Rattle.words.specs.Planes.{Planes, lent}
 use Rattle.planecheck.proofs.Checks.{exactly-accepted}

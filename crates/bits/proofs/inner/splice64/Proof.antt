@@ -3,8 +3,7 @@ use Rattle.words.specs.Vector.{bitAt}
 use mathlib.Core.Path.{_≡_, refl, sym, ap, ap₂, _∙_}
 use Prim.Native.Nat.{ℕ, _-_, _<_, min}
 use native.Mathlib.Omega.{arith}
-use Rattle.words.specs.Planes.{valueDigit, unknownDigit, bitOf, fromPlanes}
-use Rattle.words.specs.Planes.{lent, planesOf}
+use Rattle.words.specs.Planes.{valueDigit, unknownDigit, fromPlanes, lent, planesOf}
 use Rattle.bits.specs.Bits.{splicedPlane, spliceCount}
 use Rattle.words.proofs.Digits.{bit-lt}
 use Rattle.words.proofs.Planes.{length-tabulate, value-digit-lt, unknown-digit-lt, value-digit-stored, unknown-digit-stored}

@@ -10,8 +10,7 @@ use Rattle.words.specs.Planes.{wordBy}
 use Rattle.words.specs.Vector.{FilledTo}
 use Rattle.words.proofs.Fill.{start, more}
 use Rattle.lanes.specs.declared.Bitwise.{Bitwise}
-use Rattle.lanes.specs.Lanes.{opBit}
-use Rattle.lanes.specs.Lanes.{laneWord}
+use Rattle.lanes.specs.Lanes.{opBit, laneWord}
 use borrow.Author.Needs.{needs}
 use Rattle.join.proofs.inner.join_words.Statement.{statement}
 use Rattle.join.proofs.inner.join_words.Tie as tie

@@ -6,7 +6,6 @@ use lib.ListN.{length, length-set}
 use Rattle.text.specs.Read.{lineEnd}
 use Rattle.text.specs.Write.{decimal, numberText}
 use Rattle.lines.proofs.Put.{put-byte, place-of, three, length-line}
-use borrow.Author.Needs.{needs}
 use Rattle.lines.proofs.inner.put_number_line.Statement.{statement}
 use Rattle.lines.proofs.inner.put_number_line.Tie as tie
 

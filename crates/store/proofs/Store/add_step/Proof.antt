@@ -5,7 +5,6 @@ use mathlib.Core.Bool.{true, false}
 use native.Mathlib.Omega.{arith}
 use lib.ListN.{length, length-map}
 use Rattle.refusal.specs.Refusals.{refusalNumber}
-use Rattle.refusal.specs.Outcome.{outcome}
 use Rattle.refusal.specs.Outcome.Answer.{given}
 use Rattle.words.specs.Planes.{wordCount, Planes, lent, planesOf}
 use Rattle.value.specs.declared.Header.{Header}

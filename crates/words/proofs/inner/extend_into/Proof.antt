@@ -9,8 +9,7 @@ use lib.ListN.{length, getD}
 use Rattle.bit.specs.declared.LogicBit.{LogicBit}
 use Rattle.words.specs.declared.Word.{Word}
 use Rattle.words.specs.Vector.{tabulate, at, FilledTo}
-use Rattle.words.specs.Planes.{valueDigit, unknownDigit, wordCount, fromPlanes, wordOf}
-use Rattle.words.specs.Planes.{lent}
+use Rattle.words.specs.Planes.{valueDigit, unknownDigit, wordCount, fromPlanes, wordOf, lent}
 use Rattle.words.proofs.Planes.{length-tabulate, value-digit-lt, unknown-digit-lt}
 use Rattle.words.proofs.Extend.{cut-vector}
 use Rattle.words.proofs.Fill.{start, more, plane-done}

@@ -1,5 +1,4 @@
 -- `words::inner::filled`: the four bits, each computed.
-use mathlib.Core.Path.{refl}
 use Rattle.words.specs.Vector.{pack}
 use borrow.Author.Needs.{needs}
 use Rattle.words.proofs.inner.filled.Statement.{statement}

@@ -1,5 +1,5 @@
 -- `words::inner::word_from`: the rest of one word, and where there is a next one, its beginning.
-use mathlib.Core.Path.{sym, ap, _∙_}
+use mathlib.Core.Path.{ap, _∙_}
 use Prim.Native.Nat.{ℕ, _-_, _/_, _%_}
 use native.Mathlib.Omega.{arith}
 use lib.ListN.{List·getD-eq-default}
