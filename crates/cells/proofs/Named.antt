@@ -49,12 +49,12 @@ either-within : (t : Bool) (x y n : ℕ) → x < n → t || ltb y n ≡ true →
 either-within true x y n h e = h
 either-within false x y n h e = ltb-true y n e
 
-pub record InLimits (n : ℕ) (s : Step) : Type 0 where
+pub record NamesFilled (n : ℕ) (s : Step) : Type 0 where
   pub a : named s .a < n
   pub b : named s .b < n
   pub c : named s .c < n
 
-pub names-within : (n : ℕ) (s : Step) → names n s ≡ true → InLimits n s
+pub names-within : (n : ℕ) (s : Step) → names n s ≡ true → NamesFilled n s
 names-within n s h =
     let x = ltb (s .a) n in
     let y = ltb (operands (s .op)) 2 || ltb (s .b) n in

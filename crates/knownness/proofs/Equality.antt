@@ -120,14 +120,14 @@ equal-paired a b h =
     (operand-read b (a .header) i (p .1) (p .0) (λ t s. let e = p .2 s t in omega (arith, h .right)))))
 
 -- a bit before the others
-abbrev first : LogicBit → (ℕ → LogicBit) → ℕ → LogicBit
-first x f zero = x
-first x f (suc i) = f i
+abbrev prepended : LogicBit → (ℕ → LogicBit) → ℕ → LogicBit
+prepended x f zero = x
+prepended x f (suc i) = f i
 
-first-completes : (f : ℕ → LogicBit) (x : LogicBit) (g : ℕ → LogicBit) → Completes (f 0) x → ((i : ℕ) → Completes (f (suc i)) (g i))
-    → (i : ℕ) → Completes (f i) (first x g i)
-first-completes f x g h t zero = h
-first-completes f x g h t (suc i) = t i
+prepended-completes : (f : ℕ → LogicBit) (x : LogicBit) (g : ℕ → LogicBit) → Completes (f 0) x → ((i : ℕ) → Completes (f (suc i)) (g i))
+    → (i : ℕ) → Completes (f i) (prepended x g i)
+prepended-completes f x g h t zero = h
+prepended-completes f x g h t (suc i) = t i
 
 paired-full : (n : ℕ) (f g : ℕ → LogicBit) (r : LogicBit) → Completes (paired n f g) r
     → (f′ : ℕ → LogicBit) × (g′ : ℕ → LogicBit) × ((i : ℕ) → Completes (f i) (f′ i)) × ((i : ℕ) → Completes (g i) (g′ i)) × (paired n f′ g′ ≡ r)
@@ -143,10 +143,10 @@ paired-full (suc n) f g r h =
     let w = exact-and .full X (sameBit (f 0) (g 0)) (paired n (λ i. f (suc i)) (λ i. g (suc i))) r h in
     let u = exact-same .full X (f 0) (g 0) (w .a′) (w .second) in
     let v = paired-full n (λ i. f (suc i)) (λ i. g (suc i)) (w .b′) (w .third) in (
-      first (u .a′) (v .0),
-      first (u .b′) (v .1),
-      first-completes f (u .a′) (v .0) (u .second) (v .2),
-      first-completes g (u .b′) (v .1) (u .third) (v .3),
+      prepended (u .a′) (v .0),
+      prepended (u .b′) (v .1),
+      prepended-completes f (u .a′) (v .0) (u .second) (v .2),
+      prepended-completes g (u .b′) (v .1) (u .third) (v .3),
       ap₂ andBit (u .gives) (v .4) ∙ w .gives,
     )
 

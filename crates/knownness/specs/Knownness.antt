@@ -119,8 +119,8 @@ AllGive cs s i v = (a b c : Vector) → Pointwise Completes (cellAt cs (s .a)) a
 abbrev pub Comparable : Header → Header → Type 0
 Comparable a b = T (not (a .«is_fill»)) × T (not (b .«is_fill»)) × (T (a .«is_signed») → T (b .«is_signed») → a .width ≡ b .width)
 
--- so are those of an equality. Without it, an equality can be x though all completions give 0: signed x0 beside signed 0100 (document 01, "Cases
--- on either side"), whose extension is of one bit, and so a fill x beside 01
+-- so are those of an equality. Where they are not, one unknown bit can stand at several places, and the equality be x though all completions give
+-- 0: signed x0 beside signed 0100 (document 01, "Cases on either side"), or a fill x beside 01
 abbrev pub EqualityComparable : List Vector → Step → Type 0
 EqualityComparable cs s = s .op ≡ Equal → Comparable (cellAt cs (s .a) .header) (cellAt cs (s .b) .header)
 

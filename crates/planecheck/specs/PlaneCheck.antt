@@ -7,6 +7,7 @@ use Rattle.refusal.specs.Outcome.{Answer, after}
 use Rattle.refusal.specs.Outcome.Answer.{given, refused}
 use Rattle.words.specs.Planes.{wordCount, clearAbove, Planes}
 
+-- the widest vector ("Header and operand")
 abbrev pub maxWidth : ℕ
 maxWidth = 1048576
 

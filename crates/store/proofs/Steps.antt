@@ -39,7 +39,7 @@ use Rattle.store.specs.Step.{Memory, memory, checkMemory, stepVector, wo
 use Rattle.cells.proofs.Spans.{Fits, fits-read}
 use Rattle.store.proofs.Held.{state-agrees, held-count, holds-headers, Storable, storable-sound, storable-vector, append-holds, value-length, Added}
 use Rattle.cells.proofs.Tail.{front-is}
-use Rattle.cells.proofs.Named.{InLimits, names-within}
+use Rattle.cells.proofs.Named.{NamesFilled, names-within}
 use Rattle.store.proofs.Named.{vector-named}
 
 pub header-vector : (s : State) (step : Step) → stepHeader (storeHeaders (s .store)) step ≡ stepVector s step .header
@@ -115,7 +115,7 @@ module _ (m : Memory) (step : Step) (places : length (m .state .store .cells) �
   abbrev a : Planes
   a = m .state .arenas
 
-  within : InLimits (m .state .store .count) step
+  within : NamesFilled (m .state .store .count) step
   within = names-within (m .state .store .count) step (h .all-named)
 
   cell-fits-at : (i : ℕ) → i < m .state .store .count → Fits a (cellNumber (filled (m .state .store)) i .start) (cellNumber (filled (m .state .store)) i)

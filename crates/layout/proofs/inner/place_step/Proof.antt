@@ -19,7 +19,7 @@ use Rattle.machine.specs.Machine.{headerAt, names, stepHeader, wordsTaken, chec
 use Rattle.cells.specs.declared.Cell.{Cell}
 use Rattle.cells.specs.declared.Operands.{Operands}
 use Rattle.cells.specs.Cells.{cellHeaders, named}
-use Rattle.cells.proofs.Named.{InLimits, names-within, names-tested}
+use Rattle.cells.proofs.Named.{NamesFilled, names-within, names-tested}
 use Rattle.layout.specs.Layout.{noCell, wordBehind, agree, checkCells, placeAnswer, cellNumber, namedCells, placed}
 use Rattle.layout.proofs.Answers.{both-given, both-refused, count-few}
 use Rattle.layout.proofs.Agreed.{cells-accepted, agree-facts, headers-count, next-within}
@@ -92,7 +92,7 @@ module _ (e : tie.Else1) where
   abbrev start : tie.Start
   start = begin first
 
-  there : InLimits (start .args .count) (start .args .step)
+  there : NamesFilled (start .args .count) (start .args .step)
   there = names-within (start .args .count) (start .args .step) (told first false (e .if1 .left))
 
   -- each number of the step that is read
