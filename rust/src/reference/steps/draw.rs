@@ -17,7 +17,6 @@ pub struct Shape {
     pub steps: usize,
     pub widths: &'static [u32],
     pub ops: Vec<Op>,
-    pub has_fills: bool,
     /// Some inputs and steps are refused whatever the memory.
     pub has_faults: bool,
 }
@@ -30,7 +29,6 @@ impl Shape {
             steps: rng.below(14) as usize,
             widths: FEW,
             ops: Op::ALL.to_vec(),
-            has_fills: true,
             has_faults: false,
         }
     }
@@ -92,7 +90,7 @@ impl Rng {
                 self.like(other, width)
             }
         };
-        let may_fill = shape.has_fills && (width > 0 || shape.has_faults && self.below(4) == 0);
+        let may_fill = width > 0 || shape.has_faults && self.below(4) == 0;
         (v.header.is_signed, v.header.is_fill) = match self.below(6) {
             0..=2 => (false, false),
             3 | 4 => (true, false),
