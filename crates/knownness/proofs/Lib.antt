@@ -6,3 +6,4 @@ pub mod Ops
 pub mod Steps
 pub mod Machine
 pub mod Runs
+pub mod LeftOut

@@ -4,9 +4,11 @@
 --     same-ending       a run's ending goes by the headers of the cells it starts from
 --     prefix            the cells that a run starts from stay, in order
 --     at-more           what holds of all cells holds with one more
---     step-sound, run-sound     each cell of a step and of a run has as many bits as its header says, if the cells before do
+--     run-all           what a step keeps of all cells, a run keeps
+--     step-sound        the cell of a step has as many bits as its header says, if the cells before do
+--     run-no-fill       no cell is a fill, if no input is
 use mathlib.Core.Path.{_≡_, refl, sym, _∙_, subst, ap}
-use mathlib.Core.Bool.{Bool, true, false, cond}
+use mathlib.Core.Bool.{Bool, true, false, not, cond}
 use mathlib.Core.List.{List, [], _∷_, _++_, append-assoc, append-nil}
 use Prim.Native.Nat.{ℕ, zero, suc}
 use native.Mathlib.Omega.{arith}
@@ -17,11 +19,12 @@ use Rattle.refusal.specs.Outcome.Answer.{given, refused}
 use Rattle.value.specs.declared.Header.{Header}
 use Rattle.value.specs.Checks.{Vector}
 use Rattle.ops.specs.declared.Step.{Step}
+use Rattle.ops.specs.declared.Family.{Family}
 use Rattle.ops.specs.declared.Family.the-variants as family
-use Rattle.ops.specs.Ops.{armsRefused, opHeader}
+use Rattle.ops.specs.Ops.{familyOf, armsRefused, familyHeader, opHeader}
 use Rattle.ops.proofs.Results.{result-width}
 use Rattle.machine.specs.Machine.{Room, headersOf, noVector, cellAt, headerAt, checkCount, checkNames, checkRoom, checkScratch, stepHeader, checkStep, stepCell, Run, onward, runFrom}
-use Rattle.knownness.specs.Knownness.{AllSound}
+use Rattle.knownness.specs.Knownness.{AllSound, NoFill}
 
 -- ---- headers
 
@@ -104,18 +107,42 @@ at-more R z (x ∷ xs) [] c d e h p j = absurd (omega arith)
 at-more R z (x ∷ xs) (y ∷ ys) c d e h p zero = h zero
 at-more R z (x ∷ xs) (y ∷ ys) c d e h p (suc j) = at-more R z xs ys c d (omega arith) (λ i. h (suc i)) p j
 
-module _ (r : Room) where
-  pub step-sound : (cs : List Vector) (s : Step) (u : Unit) → checkStep r (headersOf cs) s ≡ given u → AllSound cs → AllSound (more cs s)
-  step-sound cs s u e h =
-      at-more (λ c d. length (c .bits) ≡ c .header .width) refl cs cs (stepCell cs s) (stepCell cs s) refl h
-      (result-width (cellAt cs (s .a)) (cellAt cs (s .b)) (cellAt cs (s .c)) (s .c) (h (s .a)) (h (s .b)) (h (s .c)) (s .op) (arms-accepted r cs s u e))
+-- what holds of each cell, and of each that a step makes of such cells, holds of every cell of a run
+module _ (P : Vector → Type 0) (none : P noVector) where
+  abbrev pub All : List Vector → Type 0
+  All cs = (j : ℕ) → P (cellAt cs j)
 
-  pub run-sound : (ss : List Step) (n : ℕ) (cs : List Vector) → AllSound cs → AllSound (runFrom r cs n ss .cells)
-  unfolding runFrom
-  run-sound [] n cs h = h
-  run-sound (s ∷ ss) n cs h = go (checkStep r (headersOf cs) s) refl (runFrom r (more cs s) (suc n) ss) (run-sound ss (suc n) (more cs s))
-    where
-      go : (o : Answer Unit) → checkStep r (headersOf cs) s ≡ o → (p : Run) → (AllSound (more cs s) → AllSound (p .cells))
-          → AllSound (onward o cs n p .cells)
-      go (given u) e p k = k (step-sound cs s u e h)
-      go (refused x) e p k = h
+  pub all-more : (cs : List Vector) (c : Vector) → All cs → P c → All (cs ++ (c ∷ []))
+  all-more cs c h p = at-more (λ x y. P x) none cs cs c c refl h p
+
+  module _ (r : Room) (step : (cs : List Vector) (s : Step) (u : Unit) → checkStep r (headersOf cs) s ≡ given u → All cs → P (stepCell cs s)) where
+    pub run-all : (ss : List Step) (n : ℕ) (cs : List Vector) → All cs → All (runFrom r cs n ss .cells)
+    unfolding runFrom
+    run-all [] n cs h = h
+    run-all (s ∷ ss) n cs h = go (checkStep r (headersOf cs) s) refl (runFrom r (more cs s) (suc n) ss) (run-all ss (suc n) (more cs s))
+      where
+        go : (o : Answer Unit) → checkStep r (headersOf cs) s ≡ o → (p : Run) → (All (more cs s) → All (p .cells)) → All (onward o cs n p .cells)
+        go (given u) e p k = k (all-more cs (stepCell cs s) h (step cs s u e h))
+        go (refused x) e p k = h
+
+-- ---- each cell has as many bits as its header says
+
+pub step-sound : (r : Room) (cs : List Vector) (s : Step) (u : Unit) → checkStep r (headersOf cs) s ≡ given u → AllSound cs → AllSound (more cs s)
+step-sound r cs s u e h =
+    all-more (λ c. length (c .bits) ≡ c .header .width) refl cs (stepCell cs s) h
+    (result-width (cellAt cs (s .a)) (cellAt cs (s .b)) (cellAt cs (s .c)) (s .c) (h (s .a)) (h (s .b)) (h (s .c)) (s .op) (arms-accepted r cs s u e))
+
+-- ---- no cell is a fill
+
+-- only insert keeps a fill
+no-fill-header : (f : Family) (a b c : Header) → T (not (a .«is_fill»)) → T (not (familyHeader f a b c .«is_fill»))
+no-fill-header (family.Join j) a b c h = tt
+no-fill-header family.Not a b c h = tt
+no-fill-header (family.Answer q) a b c h = tt
+no-fill-header family.Select a b c h = tt
+no-fill-header family.Insert a b c h = h
+
+pub run-no-fill : (r : Room) (ss : List Step) (n : ℕ) (cs : List Vector) → NoFill cs → NoFill (runFrom r cs n ss .cells)
+run-no-fill r =
+    run-all (λ c. T (not (c .header .«is_fill»))) tt r
+    (λ cs s u e h. no-fill-header (familyOf (s .op)) (cellAt cs (s .a) .header) (cellAt cs (s .b) .header) (cellAt cs (s .c) .header) (h (s .a)))

@@ -21,7 +21,7 @@ use Rattle.value.specs.Checks.{Vector}
 use Rattle.ops.specs.declared.Step.{Step}
 use Rattle.ops.specs.Ops.{familyOf, armsRefused}
 use Rattle.machine.specs.Machine.{Room, headersOf, noVector, cellAt, checkStep, stepCell, Run, onward, runFrom, machineRun}
-use Rattle.knownness.specs.Knownness.{isExact, stepAt, AllKeep, Keeps, Refines, Pointwise, Cellwise, AllSound, ExactStep, ExactRun}
+use Rattle.knownness.specs.Knownness.{isExact, stepAt, AllKeep, Keeps, Refines, Pointwise, Cellwise, AllSound, ExactStep, EqualityComparable, ExactCells}
 use Rattle.knownness.proofs.Bits.{refines-keeps, keeps-refl}
 use Rattle.knownness.proofs.Ops.{Accepted}
 use Rattle.knownness.proofs.Steps.{width-again, op-keeps, op-exact}
@@ -60,7 +60,7 @@ accepted cs s a e = record { first = a (s .a); second = a (s .b); third = a (s .
 
 module _ (r : Room) where
   step-exact : (cs : List Vector) (s : Step) (u : Unit) → checkStep r (headersOf cs) s ≡ given u → AllSound cs → T (isExact (s .op))
-      → ExactStep cs s (stepCell cs s)
+      → EqualityComparable cs s → ExactStep cs s (stepCell cs s)
   step-exact cs s u e a k w i l v kv =
       op-exact (s .op) (s .c) (cellAt cs (s .a)) (cellAt cs (s .b)) (cellAt cs (s .c)) (accepted cs s a (arms-accepted r cs s u e)) k i l v kv
       (λ q. record { left = a (s .a); right = a (s .b); comparable = w q })
@@ -93,7 +93,8 @@ module _ (r : Room) where
 
   -- the step after the cells that stand before m
   abbrev ExactAt : List Vector → List Step → ℕ → ℕ → Type 0
-  ExactAt cells ss m k = m < length cells → T (isExact (stepAt ss k .op)) → ExactStep (take m cells) (stepAt ss k) (cellAt cells m)
+  ExactAt cells ss m k = m < length cells → T (isExact (stepAt ss k .op)) → EqualityComparable (take m cells) (stepAt ss k)
+      → ExactStep (take m cells) (stepAt ss k) (cellAt cells m)
 
   exact-from : (ss : List Step) (n : ℕ) (cs : List Vector) → AllSound cs → (k : ℕ) → k < length ss
       → ExactAt (runFrom r cs n ss .cells) ss (length cs + k) k
@@ -116,7 +117,8 @@ module _ (r : Room) where
           let x : cs ≡ take (length cs + 0) (p .cells) = sym (ap (take (length cs + 0)) w ∙ take-at cs (stepCell cs s ∷ t .0) (length cs + 0) m) in
           let y : stepCell cs s ≡ cellAt (p .cells) (length cs + 0) =
           sym (ap (λ z. cellAt z (length cs + 0)) w ∙ getD-at cs (stepCell cs s) (t .0) noVector (length cs + 0) m) in
-          subst (λ z. ExactStep (take (length cs + 0) (p .cells)) s z) y (subst (λ z. ExactStep z s (stepCell cs s)) x (step-exact cs s u e a l))
+          subst (λ z. EqualityComparable (take (length cs + 0) (p .cells)) s → ExactStep (take (length cs + 0) (p .cells)) s z) y
+          (subst (λ z. EqualityComparable z s → ExactStep z s (stepCell cs s)) x (step-exact cs s u e a l))
       go p (given u) e (suc k) h t ih q l =
           let d : length (more cs s) + k ≡ length cs + suc k = omega (arith, len) in
           subst (λ m. ExactAt (p .cells) ss m k) d (ih (step-sound r cs s u e a) k (omega arith)) q l
@@ -132,5 +134,5 @@ alike r A B ss a h = record {
   kept = λ l. kept r ss l 1 A B a (refined-keeps A B h);
 }
 
-pub exact : (r : Room) (A : List Vector) (ss : List Step) → AllSound A → ExactRun r A ss
+pub exact : (r : Room) (A : List Vector) (ss : List Step) → AllSound A → ExactCells EqualityComparable (length A) ss (machineRun r A ss .cells)
 exact r A ss a k h = exact-from r ss 1 A a k h

@@ -1,9 +1,9 @@
--- Document 01, "The runs of demand 3": inputs that refine others, the completions of a step's operands, and what demand 3 claims of a run of
--- the plain machine.
+-- Document 01, "The runs of demand 3": inputs that refine others, the completions of a step's operands, what demand 3 claims of the cells of a
+-- run, and why some ops stand outside it.
 use mathlib.Core.Path.{_≡_}
 use mathlib.Core.Bool.{Bool, true, false, not, cond}
-use mathlib.Core.Logic.{_⊎_, _↔_}
-use mathlib.Core.List.{List}
+use mathlib.Core.Logic.{_⊎_, _↔_, _≢_}
+use mathlib.Core.List.{List, [], _∷_}
 use Prim.Native.Nat.{ℕ, _+_, _<_}
 use lib.Dec.{T}
 use lib.ListN.{length, getD, take}
@@ -21,7 +21,7 @@ use Rattle.ops.specs.declared.Step.{Step}
 use Rattle.ops.specs.declared.Family.{Family}
 use Rattle.ops.specs.declared.Family.the-variants as family
 use Rattle.ops.specs.Ops.{noStep, familyOf, opBits}
-use Rattle.machine.specs.Machine.{Room, cellAt, machineRun}
+use Rattle.machine.specs.Machine.{Room, cellAt, stepCell, machineRun}
 
 -- ---- the ops
 
@@ -115,6 +115,16 @@ abbrev pub AllGive : List Vector → Step → ℕ → LogicBit → Type 0
 AllGive cs s i v = (a b c : Vector) → Pointwise Completes (cellAt cs (s .a)) a → Pointwise Completes (cellAt cs (s .b)) b
     → Pointwise Completes (cellAt cs (s .c)) c → (second : Bool) → gives (s .op) (s .c) second a b c i ≡ v
 
+-- each bit of the cell made is known as v exactly if all completions of the operands give v
+abbrev pub ExactStep : List Vector → Step → Vector → Type 0
+ExactStep cs s made = (i : ℕ) → i < length (made .bits) → (v : LogicBit) → Known v → (at (made .bits) i ≡ v) ↔ AllGive cs s i v
+
+-- ---- where an equality is known exactly
+
+-- its operands are of equal width
+abbrev pub EqualWidths : List Vector → Step → Type 0
+EqualWidths cs s = s .op ≡ Equal → cellAt cs (s .a) .header .width ≡ cellAt cs (s .b) .header .width
+
 -- two operands of which neither is a fill, and which are of equal width if both are signed
 abbrev pub Comparable : Header → Header → Type 0
 Comparable a b = T (not (a .«is_fill»)) × T (not (b .«is_fill»)) × (T (a .«is_signed») → T (b .«is_signed») → a .width ≡ b .width)
@@ -124,14 +134,42 @@ Comparable a b = T (not (a .«is_fill»)) × T (not (b .«is_fill»)) × (T (a .
 abbrev pub EqualityComparable : List Vector → Step → Type 0
 EqualityComparable cs s = s .op ≡ Equal → Comparable (cellAt cs (s .a) .header) (cellAt cs (s .b) .header)
 
--- each bit of the cell made is known as v exactly if all completions of the operands give v
-abbrev pub ExactStep : List Vector → Step → Vector → Type 0
-ExactStep cs s made = EqualityComparable cs s → (i : ℕ) → i < length (made .bits) → (v : LogicBit) → Known v
-    → (at (made .bits) i ≡ v) ↔ AllGive cs s i v
+-- ---- the cells of a run
 
--- ---- a run of the plain machine
+abbrev pub NoFill : List Vector → Type 0
+NoFill cs = (j : ℕ) → T (not (cellAt cs j .header .«is_fill»))
 
--- so at each step that was run; its operands are the cells before it
-abbrev pub ExactRun : Room → List Vector → List Step → Type 0
-ExactRun r A ss = (k : ℕ) → k < length ss → length A + k < length (machineRun r A ss .cells) → T (isExact (stepAt ss k .op))
-    → ExactStep (take (length A + k) (machineRun r A ss .cells)) (stepAt ss k) (cellAt (machineRun r A ss .cells) (length A + k))
+-- n inputs and then the cells of the steps ss, as far as these were run: each that meets C is known exactly. Its operands are the cells before it
+abbrev pub ExactCells : (C : List Vector → Step → Type 0) → (n : ℕ) → List Step → List Vector → Type 0
+ExactCells C n ss cells = (k : ℕ) → k < length ss → n + k < length cells → T (isExact (stepAt ss k .op))
+    → C (take (n + k) cells) (stepAt ss k) → ExactStep (take (n + k) cells) (stepAt ss k) (cellAt cells (n + k))
+
+-- ---- the ops outside demand 3
+
+-- a list of one step of the op, and inputs that are refined, with which a bit that was known changes
+pub record Loses (op : Op) : Type 0 where
+  pub room : Room
+  pub inputs : List Vector
+  pub refined : List Vector
+  pub step : Step
+  pub by : step .op ≡ op
+  pub sound : AllSound inputs
+  pub refines : Cellwise Refines inputs refined
+  pub cell : ℕ
+  pub place : ℕ
+  pub known-bit : Known (at (cellAt (machineRun room inputs (step ∷ []) .cells) cell .bits) place)
+  pub changes : at (cellAt (machineRun room refined (step ∷ []) .cells) cell .bits) place
+      ≢ at (cellAt (machineRun room inputs (step ∷ []) .cells) cell .bits) place
+
+-- cells and a step of the op that is not known exactly
+pub record Inexact (op : Op) : Type 0 where
+  pub cells : List Vector
+  pub step : Step
+  pub by : step .op ≡ op
+  pub sound : AllSound cells
+  pub inexact : ¬ (ExactStep cells step (stepCell cells step))
+
+-- no op is left out that need not be
+pub record LeftOut : Type 0 where
+  pub loses : (op : Op) → T (not (keepsKnown op)) → Loses op
+  pub inexact : (op : Op) → T (not (isExact op)) → Inexact op

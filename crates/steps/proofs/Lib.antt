@@ -3,3 +3,4 @@ pub mod Plain
 pub mod Inputs
 pub mod Loops
 pub mod Refinement
+pub mod Demand

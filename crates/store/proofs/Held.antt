@@ -1,5 +1,6 @@
 -- What a state holds, and how it lasts.
 --     state-agrees    what a store and its arenas agree on, as facts
+--     state-uneven    with arenas of two lengths every store is refused by 14
 --     cell-read       a filled cell lies within the arenas, and its planes are those of a vector
 --     held-count, cell-held     there are as many cells as vectors held, and cell i has vector i
 --     holds-headers   the filled cells have the headers of the vectors held
@@ -8,7 +9,8 @@
 --     append-holds    a vector put behind the last cell is held behind the others
 --     Added           what is so once a call has added a vector
 use mathlib.Core.Path.{_≡_, refl, sym, ap, ap₂, _∙_, subst}
-use mathlib.Core.Bool.{true}
+use mathlib.Core.Bool.{Bool, true, false, cond}
+use mathlib.Core.Logic.{_≢_}
 use mathlib.Core.List.{List, [], _∷_, _++_, map, map-map}
 use Prim.Native.Nat.{ℕ, _+_, _≤_, _<_}
 use native.Mathlib.Omega.{arith}
@@ -16,7 +18,7 @@ use native.Mathlib.Numerals.{add-one}
 use lib.ListN.{length, getD, take, drop, set, length-map, length-set, length-replicate, List·getD-map}
 use lib.Seq.{getD-take, length-take-le, take-suc-set}
 use Rattle.refusal.specs.Outcome.{Answer}
-use Rattle.refusal.specs.Outcome.Answer.{given}
+use Rattle.refusal.specs.Outcome.Answer.{given, refused}
 use Rattle.bit.specs.declared.LogicBit.{LogicBit}
 use Rattle.words.specs.Planes.{wordCount, fromPlanes, valuePlane, unknownPlane, Plane, Planes, lent, planesOf}
 use Rattle.words.proofs.Planes.{bits-again, value-plane, unknown-plane}
@@ -26,9 +28,9 @@ use Rattle.value.proofs.Checks.{Sound}
 use Rattle.machine.specs.Machine.{headersOf, wordsTaken}
 use Rattle.cells.specs.declared.Cell.{Cell}
 use Rattle.cells.specs.Cells.{cellPlanes, cellVector, cellHeaders, cellAgrees, cellsAgree, putPlanes}
-use Rattle.layout.specs.Layout.{noCell}
+use Rattle.layout.specs.Layout.{noCell, checkCells}
 use Rattle.layout.proofs.Agreed.{Agreed, agree-facts, facts-agree, filled-fits}
-use Rattle.store.specs.Store.{State, state, emptyStore, filled, storeHeaders, nextWord, agrees, putCell, appended, roomOf, Holds}
+use Rattle.store.specs.Store.{State, state, emptyStore, filled, storeHeaders, nextWord, agrees, checkStore, putCell, appended, roomOf, Holds}
 use Rattle.store.specs.Step.{Memory}
 use Rattle.store.proofs.Answers.{vector-accepts}
 use Rattle.cells.proofs.Spans.{fits-cell, cells-snoc, cells-same, Readable, fits-read}
@@ -36,6 +38,14 @@ use Rattle.cells.proofs.Tail.{put-take, put-span, put-length}
 
 pub state-agrees : (s : State) → agrees s ≡ true → Agreed (s .arenas) (s .store .cells) (s .store .count)
 state-agrees s h = agree-facts (s .arenas) (s .store .cells) (s .store .count) h
+
+pub state-uneven : (s : State) → length (s .arenas .value) ≢ length (s .arenas .unknown) → checkStore s ≡ refused 14
+unfolding checkCells
+state-uneven s u = go (agrees s) refl
+  where
+    go : (z : Bool) → agrees s ≡ z → cond z (given (tt {0})) (refused 14) ≡ refused 14
+    go true e = absurd (u (state-agrees s e .level))
+    go false e = refl
 
 -- ---- reading
 
