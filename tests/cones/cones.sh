@@ -1,15 +1,17 @@
 # The program `cones` on whole files: each NAME.in gives NAME.out, each file in broken/ is refused by 6, then lists that this script makes,
-# since they are long, and input that comes in pieces, without end or not at all. What each has to write is worked out without the program.
+# since they are long, input that comes in pieces, without end or not at all, and output that is not taken. What each has to write is worked
+# out without the program.
 set -u
 export LC_ALL=C
 cases=$ROOT/tests/cones
 failed=0 count=0
 printf 'refused=6\nstep=0\n' >format
 
-# told NAME WANT STATUS: the program, which wrote out and err and ended with STATUS, wrote what stands in WANT and nothing to err.
+# told NAME WANT STATUS [SAID]: the program, which wrote out and err and ended with STATUS, wrote what stands in WANT, and to err what
+# stands in SAID, or nothing.
 told() {
     count=$((count + 1))
-    if ! cmp -s out "$2" || [ -s err ] || [ "$3" -ne 0 ]; then
+    if ! cmp -s out "$2" || ! cmp -s err "${4-/dev/null}" || [ "$3" -ne 0 ]; then
         failed=$((failed + 1))
         printf '%s: status %s, wrote:\n' "$1" "$3"
         tail -n 4 out err | cut -c 1-100
@@ -76,27 +78,29 @@ awk 'BEGIN {
 }' >want
 gives '64 inputs and 256 steps' list want
 
-# not upon not of zeros, of a width, until the 2,048 words of the arenas are full
-nots() { # WIDTH STEPS
-    begin 1 "$2" && input u "$(digits 0 "$1")"
-    awk -v steps="$2" 'BEGIN { for (k = 0; k < steps; k++) printf "op=not\na=%d\nb=0\nc=0\n", k }'
+# not upon not of zeros of a width, then the or of the input's bits, until the 2,048 words of the arenas are full. No input can ask for a
+# word too many: the bits in 65,536 bytes take 1,024 words, and 64 inputs at most 64 more. Nor can a list tell scratch planes of 2,048 words
+# from others of at least 64 words, which is what the widest result takes.
+fills() { # NAME WIDTH NOTS ORS RUN, the number of steps that find room
+    awk -v zeros="$(digits 0 "$2")" -v ones="$(digits 1 "$2")" -v nots="$3" -v steps=$(($3 + $4)) -v run="$5" 'BEGIN {
+        printf "inputs=1\nsteps=%d\nwidth=%d\nkind=u\nbits=%s\n", steps, length(zeros), zeros >"list"
+        for (k = 1; k <= steps; k++) {
+            printf "op=%s\na=%d\nb=0\nc=0\n", (k <= nots ? "not" : "ror"), (k <= nots ? k - 1 : 0) >"list"
+            if (k <= run) printf "cell=%d\nbits=%s\n", k, (k <= nots ? k % 2 ? ones : zeros : 0) >"want"
+        }
+        if (run < steps) printf "refused=13\nstep=%d\n", run + 1 >"want"
+        else printf "done=%d\n", steps >"want"
+    }' || failed=$((failed + 1))
+    gives "$1" list want
 }
-noted() { # WIDTH STEPS
-    awk -v zeros="$(digits 0 "$1")" -v ones="$(digits 1 "$1")" -v steps="$2" \
-        'BEGIN { for (k = 1; k <= steps; k++) printf "cell=%d\nbits=%s\n", k, k % 2 ? ones : zeros }'
-}
-nots 449 255 >list
-{ noted 449 255 && echo done=255; } >want
-gives '256 cells of 8 words' list want
-nots 449 256 >list
-{ noted 449 255 && printf 'refused=13\nstep=256\n'; } >want
-gives '257 cells of 8 words' list want
-nots 448 256 >list
-{ noted 448 256 && echo done=256; } >want
-gives '257 cells of 7 words' list want
-nots 4096 40 >list
-{ noted 4096 31 && printf 'refused=13\nstep=32\n'; } >want
-gives '33 cells of 64 words' list want
+fills '256 cells of 8 words' 449 255 0 255
+fills '257 cells of 8 words' 449 256 0 255
+fills '257 cells of 7 words' 448 256 0 256
+fills '32 cells of 64 words' 4096 31 0 31
+fills '33 cells of 64 words' 4096 40 0 31
+fills '32 cells of 64 words and one of 1 word' 4096 31 1 31
+fills '31 cells of 64 words and 64 of 1 word' 4096 30 64 94
+fills '31 cells of 64 words and 65 of 1 word' 4096 30 65 94
 
 # 65,536 bytes, and one more: fifteen inputs of 4,096 bits and one that fills up
 sized() { # BYTES
@@ -133,18 +137,23 @@ yes 2>yes | timeout 10 "$BIN/cones" >out 2>err
 told 'input without end' format $?
 
 # ---- input that cannot be read: nothing is run, and a line on standard error says so
-unread() { # NAME STATUS
-    count=$((count + 1))
-    if [ -s out ] || [ "$2" -ne 0 ] || ! grep -qx 'cones: standard input cannot be read' err; then
-        failed=$((failed + 1))
-        printf '%s: status %s, wrote:\n' "$1" "$2"
-        tail -n 4 out err | cut -c 1-100
-    fi
-}
+echo 'cones: standard input cannot be read' >unread
 "$BIN/cones" >out 2>err <&-
-unread 'standard input closed' $?
+told 'standard input closed' /dev/null $? unread
 "$BIN/cones" >out 2>err <"$cases"
-unread 'a folder as standard input' $?
+told 'a folder as standard input' /dev/null $? unread
+
+# ---- output that cannot be written: a line on standard error says so
+echo 'cones: standard output cannot be written' >unwritten
+: >out
+"$BIN/cones" <list >/dev/full 2>err
+told 'a full device as standard output' /dev/null $? unwritten
+"$BIN/cones" <list 2>err >&-
+told 'standard output closed' /dev/null $? unwritten
+(trap '' XFSZ && ulimit -f 1 && exec "$BIN/cones") <"$cases/one_bit_each.in" >out 2>err
+status=$?
+head -c "$(wc -c <out)" "$cases/one_bit_each.out" >front
+told 'a file that takes the front of the output' front $status unwritten
 
 echo "$count cases, $failed failed"
 [ "$failed" -eq 0 ]

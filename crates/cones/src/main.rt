@@ -1,5 +1,5 @@
-// Runs the step list on standard input and writes what the run says. Where standard input cannot be read to its end, nothing is run: standard
-// output stays empty, and a line on standard error says so.
+// Runs the step list on standard input and writes what the run says. Where standard input cannot be read to its end, nothing is run and standard
+// output stays empty; where standard output does not take all that is written, the rest is lost. A line on standard error tells either.
 use libc::STDERR_FILENO;
 use libc::STDOUT_FILENO;
 use stdin::read_all;
@@ -35,5 +35,7 @@ fn main() {
         &mut out,
     );
     let length = r.length;
-    io::write_all(STDOUT_FILENO, &out[0..length]);
+    if !io::write_all(STDOUT_FILENO, &out[0..length]) {
+        io::write_all(STDERR_FILENO, b"cones: standard output cannot be written\n");
+    }
 }
