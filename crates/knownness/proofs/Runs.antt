@@ -8,7 +8,6 @@ use mathlib.Core.Bool.{false}
 use mathlib.Core.List.{List, [], _∷_, _++_, append-assoc}
 use Prim.Native.Nat.{ℕ, zero, suc, _+_, _<_}
 use native.Mathlib.Omega.{arith}
-use lib.Dec.{T}
 use lib.ListN.{length, take, length-append}
 use lib.Seq.{take-at, getD-at}
 use Rattle.bit.specs.declared.LogicBit.{LogicBit}
@@ -21,7 +20,7 @@ use Rattle.value.specs.Checks.{Vector}
 use Rattle.ops.specs.declared.Step.{Step}
 use Rattle.ops.specs.Ops.{familyOf, armsRefused}
 use Rattle.machine.specs.Machine.{Room, headersOf, noVector, cellAt, checkStep, stepCell, Run, onward, runFrom, machineRun}
-use Rattle.knownness.specs.Knownness.{isExact, stepAt, AllKeep, Keeps, Refines, Pointwise, Cellwise, AllSound, ExactStep, EqualityComparable, ExactCells}
+use Rattle.knownness.specs.Knownness.{stepAt, AllKeep, Keeps, Refines, Pointwise, Cellwise, AllSound, ExactStep, Exactable, ExactCells}
 use Rattle.knownness.proofs.Bits.{refines-keeps, keeps-refl}
 use Rattle.knownness.proofs.Ops.{Accepted}
 use Rattle.knownness.proofs.Steps.{width-again, op-keeps, op-exact}
@@ -59,11 +58,11 @@ accepted : (cs : List Vector) (s : Step) → AllSound cs → armsRefused (s .op)
 accepted cs s a e = record { first = a (s .a); second = a (s .b); third = a (s .c); arms = e }
 
 module _ (r : Room) where
-  step-exact : (cs : List Vector) (s : Step) (u : Unit) → checkStep r (headersOf cs) s ≡ given u → AllSound cs → T (isExact (s .op))
-      → EqualityComparable cs s → ExactStep cs s (stepCell cs s)
-  step-exact cs s u e a k w i l v kv =
-      op-exact (s .op) (s .c) (cellAt cs (s .a)) (cellAt cs (s .b)) (cellAt cs (s .c)) (accepted cs s a (arms-accepted r cs s u e)) k i l v kv
-      (λ q. record { left = a (s .a); right = a (s .b); comparable = w q })
+  step-exact : (cs : List Vector) (s : Step) (u : Unit) → checkStep r (headersOf cs) s ≡ given u → AllSound cs → Exactable cs s
+      → ExactStep cs s (stepCell cs s)
+  step-exact cs s u e a x i l v kv =
+      op-exact (s .op) (s .c) (cellAt cs (s .a)) (cellAt cs (s .b)) (cellAt cs (s .c)) (accepted cs s a (arms-accepted r cs s u e)) (x .0) i l v kv
+      (λ q. record { left = a (s .a); right = a (s .b); comparable = x .1 q })
 
   -- ---- the run
 
@@ -93,8 +92,7 @@ module _ (r : Room) where
 
   -- the step after the cells that stand before m
   abbrev ExactAt : List Vector → List Step → ℕ → ℕ → Type 0
-  ExactAt cells ss m k = m < length cells → T (isExact (stepAt ss k .op)) → EqualityComparable (take m cells) (stepAt ss k)
-      → ExactStep (take m cells) (stepAt ss k) (cellAt cells m)
+  ExactAt cells ss m k = m < length cells → Exactable (take m cells) (stepAt ss k) → ExactStep (take m cells) (stepAt ss k) (cellAt cells m)
 
   exact-from : (ss : List Step) (n : ℕ) (cs : List Vector) → AllSound cs → (k : ℕ) → k < length ss
       → ExactAt (runFrom r cs n ss .cells) ss (length cs + k) k
@@ -110,18 +108,18 @@ module _ (r : Room) where
           → (rest : List Vector) × (p .cells ≡ more cs s ++ rest)
           → (AllSound (more cs s) → (k : ℕ) → k < length ss → ExactAt (p .cells) ss (length (more cs s) + k) k)
           → ExactAt (onward o cs n p .cells) (s ∷ ss) (length cs + k) k
-      go p (refused x) e k h t ih q l = absurd (omega arith)
-      go p (given u) e zero h t ih q l =
+      go p (refused x) e k h t ih q = absurd (omega arith)
+      go p (given u) e zero h t ih q =
           let w : p .cells ≡ cs ++ (stepCell cs s ∷ t .0) = t .1 ∙ append-assoc cs (stepCell cs s ∷ []) (t .0) in
           let m : length cs ≡ length cs + 0 = omega arith in
           let x : cs ≡ take (length cs + 0) (p .cells) = sym (ap (take (length cs + 0)) w ∙ take-at cs (stepCell cs s ∷ t .0) (length cs + 0) m) in
           let y : stepCell cs s ≡ cellAt (p .cells) (length cs + 0) =
           sym (ap (λ z. cellAt z (length cs + 0)) w ∙ getD-at cs (stepCell cs s) (t .0) noVector (length cs + 0) m) in
-          subst (λ z. EqualityComparable (take (length cs + 0) (p .cells)) s → ExactStep (take (length cs + 0) (p .cells)) s z) y
-          (subst (λ z. EqualityComparable z s → ExactStep z s (stepCell cs s)) x (step-exact cs s u e a l))
-      go p (given u) e (suc k) h t ih q l =
+          subst (λ z. Exactable (take (length cs + 0) (p .cells)) s → ExactStep (take (length cs + 0) (p .cells)) s z) y
+          (subst (λ z. Exactable z s → ExactStep z s (stepCell cs s)) x (step-exact cs s u e a))
+      go p (given u) e (suc k) h t ih q =
           let d : length (more cs s) + k ≡ length cs + suc k = omega (arith, len) in
-          subst (λ m. ExactAt (p .cells) ss m k) d (ih (step-sound r cs s u e a) k (omega arith)) q l
+          subst (λ m. ExactAt (p .cells) ss m k) d (ih (step-sound r cs s u e a) k (omega arith)) q
 
 -- the runs on A and on B end alike, and every bit known in a cell under A is the same under B
 pub record Alike (r : Room) (A B : List Vector) (ss : List Step) : Type 0 where
@@ -134,5 +132,5 @@ alike r A B ss a h = record {
   kept = λ l. kept r ss l 1 A B a (refined-keeps A B h);
 }
 
-pub exact : (r : Room) (A : List Vector) (ss : List Step) → AllSound A → ExactCells EqualityComparable (length A) ss (machineRun r A ss .cells)
+pub exact : (r : Room) (A : List Vector) (ss : List Step) → AllSound A → ExactCells Exactable (length A) ss (machineRun r A ss .cells)
 exact r A ss a k h = exact-from r ss 1 A a k h

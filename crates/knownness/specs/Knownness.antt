@@ -9,6 +9,7 @@ use lib.Dec.{T}
 use lib.ListN.{length, getD, take}
 use Rattle.bit.specs.declared.LogicBit.{LogicBit}
 use Rattle.bit.specs.Rules.{known}
+use Rattle.refusal.specs.Outcome.Answer.{given}
 use Rattle.words.specs.Vector.{at}
 use Rattle.value.specs.declared.Header.{Header}
 use Rattle.value.specs.Checks.{Vector}
@@ -21,7 +22,7 @@ use Rattle.ops.specs.declared.Step.{Step}
 use Rattle.ops.specs.declared.Family.{Family}
 use Rattle.ops.specs.declared.Family.the-variants as family
 use Rattle.ops.specs.Ops.{noStep, familyOf, opBits}
-use Rattle.machine.specs.Machine.{Room, cellAt, stepCell, machineRun}
+use Rattle.machine.specs.Machine.{Room, headersOf, cellAt, checkStep, stepCell, machineRun}
 
 -- ---- the ops
 
@@ -134,6 +135,10 @@ Comparable a b = T (not (a .«is_fill»)) × T (not (b .«is_fill»)) × (T (a .
 abbrev pub EqualityComparable : List Vector → Step → Type 0
 EqualityComparable cs s = s .op ≡ Equal → Comparable (cellAt cs (s .a) .header) (cellAt cs (s .b) .header)
 
+-- a step of which exactness is proved
+abbrev pub Exactable : List Vector → Step → Type 0
+Exactable cs s = T (isExact (s .op)) × EqualityComparable cs s
+
 -- ---- the cells of a run
 
 abbrev pub NoFill : List Vector → Type 0
@@ -141,8 +146,8 @@ NoFill cs = (j : ℕ) → T (not (cellAt cs j .header .«is_fill»))
 
 -- n inputs and then the cells of the steps ss, as far as these were run: each that meets C is known exactly. Its operands are the cells before it
 abbrev pub ExactCells : (C : List Vector → Step → Type 0) → (n : ℕ) → List Step → List Vector → Type 0
-ExactCells C n ss cells = (k : ℕ) → k < length ss → n + k < length cells → T (isExact (stepAt ss k .op))
-    → C (take (n + k) cells) (stepAt ss k) → ExactStep (take (n + k) cells) (stepAt ss k) (cellAt cells (n + k))
+ExactCells C n ss cells = (k : ℕ) → k < length ss → n + k < length cells → C (take (n + k) cells) (stepAt ss k)
+    → ExactStep (take (n + k) cells) (stepAt ss k) (cellAt cells (n + k))
 
 -- ---- the ops outside demand 3
 
@@ -161,12 +166,15 @@ pub record Loses (op : Op) : Type 0 where
   pub changes : at (cellAt (machineRun room refined (step ∷ []) .cells) cell .bits) place
       ≢ at (cellAt (machineRun room inputs (step ∷ []) .cells) cell .bits) place
 
--- cells and a step of the op that is not known exactly
+-- cells and a step of the op that is run on them and is not known exactly, though if it is an equality its operands are comparable
 pub record Inexact (op : Op) : Type 0 where
+  pub room : Room
   pub cells : List Vector
   pub step : Step
   pub by : step .op ≡ op
   pub sound : AllSound cells
+  pub accepted : checkStep room (headersOf cells) step ≡ given tt
+  pub comparable : EqualityComparable cells step
   pub inexact : ¬ (ExactStep cells step (stepCell cells step))
 
 -- no op is left out that need not be

@@ -10,9 +10,9 @@ use Rattle.value.specs.Checks.{Vector}
 use Rattle.ops.specs.declared.Op.{Op}
 use Rattle.ops.specs.declared.Op.the-variants.{And, Or, Xor, Not, Merge, ReduceAnd, ReduceOr, ReduceXor, Equal, CaseEqual, CasezEqual, CasexEqual, WildcardEqual, LogicAnd, LogicOr, Select, Insert}
 use Rattle.ops.specs.declared.Step.{Step}
-use Rattle.knownness.specs.Knownness.{keepsKnown, stepAt, Refines, Cellwise, NoFill, EqualWidths, EqualityComparable, ExactCells}
+use Rattle.knownness.specs.Knownness.{keepsKnown, stepAt, Refines, Cellwise, NoFill, EqualWidths, Exactable, ExactCells}
 use Rattle.knownness.proofs.Machine.{run-no-fill}
-use Rattle.steps.specs.Demand.{LentMemory, room, runOn, cellsLeft, Paired, Demanded, Demand, Demand3, TextDemand3}
+use Rattle.steps.specs.Demand.{room, runOn, cellsLeft, Demanded, Demand, Demand3, TextDemand3}
 use Rattle.steps.proofs.Refinement.{refinement, text-sound, of-texts}
 
 -- ---- the ops
@@ -48,11 +48,12 @@ no-fill-take (x ∷ xs) (suc n) h (suc j) = no-fill-take xs n (λ i. h (suc i)) 
 refined-no-fill : (A B : List Vector) → Cellwise Refines A B → NoFill A → NoFill B
 refined-no-fill A B r h j = subst (λ x. T (not (x .«is_fill»))) (sym (r .1 j .0)) (h j)
 
--- where no cell is a fill, an equality of operands of equal width is known exactly
-equal-widths-exact : (n : ℕ) (ss : List Step) (cells : List Vector) → NoFill cells → ExactCells EqualityComparable n ss cells → ExactCells EqualWidths n ss cells
-equal-widths-exact n ss cells h x k l m e w =
+-- where no cell is a fill and every op is one of those named, a step is known exactly if it is no equality or its operands are of equal width
+equal-widths-exact : (n : ℕ) (ss : List Step) (cells : List Vector) → ((k : ℕ) → Demanded (stepAt ss k .op)) → NoFill cells → ExactCells Exactable n ss cells
+    → ExactCells EqualWidths n ss cells
+equal-widths-exact n ss cells ops h x k l m w =
     let f = no-fill-take cells (n + k) h in
-    x k l m e (λ q. (f (stepAt ss k .a), f (stepAt ss k .b), λ s t. w q))
+    x k l m (named-kept (stepAt ss k .op) (ops k), λ q. (f (stepAt ss k .a), f (stepAt ss k .b), λ s t. w q))
 
 pub demand3 : Demand3
 demand3 m n A B ss sound pair plain ops =
@@ -64,8 +65,8 @@ demand3 m n A B ss sound pair plain ops =
       kept = r .kept (λ k. named-kept (stepAt ss k .op) (ops k));
       plain = r .plain .cells;
       plain-refined = r .plain-refined .cells;
-      exact = equal-widths-exact (length A) ss (cellsLeft (runOn m A ss)) p (r .exact);
-      exact-refined = equal-widths-exact (length B) ss (cellsLeft (runOn n B ss)) q (r .exact-refined);
+      exact = equal-widths-exact (length A) ss (cellsLeft (runOn m A ss)) ops p (r .exact);
+      exact-refined = equal-widths-exact (length B) ss (cellsLeft (runOn n B ss)) ops q (r .exact-refined);
     }
 
 pub text-demand3 : TextDemand3

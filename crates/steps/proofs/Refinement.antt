@@ -19,9 +19,9 @@ use Rattle.value.specs.Checks.{Vector, vector, checkVector}
 use Rattle.ops.specs.declared.Step.{Step}
 use Rattle.ops.specs.Ops.{operands}
 use Rattle.machine.specs.Machine.{RefusedAt, Room, headersOf, checkCount, checkArms, checkRoom, checkScratch, stepHeader, checkStep, stepCell, Run, onward, runFrom, machineRun}
-use Rattle.knownness.specs.Knownness.{Keeps, Refines, Cellwise, AllSound, EqualityComparable, ExactCells}
+use Rattle.knownness.specs.Knownness.{Keeps, Refines, Cellwise, AllSound, Exactable, ExactCells}
 use Rattle.knownness.proofs.Runs.{headers-again, sound-again, alike, exact}
-use Rattle.store.specs.Store.{State, state, emptyStore, Holds, roomOf, noScratch, storeHeaders, checkStore, appended}
+use Rattle.store.specs.Store.{State, state, emptyStore, roomOf, noScratch, storeHeaders, checkStore, appended}
 use Rattle.store.specs.Step.{Memory, memory, stepVector, stepped, addStep}
 use Rattle.store.proofs.Held.{state-uneven, empty-holds}
 use Rattle.steplist.specs.Listing.{InputWithin, InLimits, whole}
@@ -186,9 +186,9 @@ refinement m n A B ss sound pair =
       kept = λ k.
           subst (λ x. Cellwise Keeps x (cellsLeft (runOn n B ss))) (sym (t .first .cells))
           (subst (λ x. Cellwise Keeps (machineRun (room m) A ss .cells) x) (sym (t .second .cells ∙ ap (λ z. machineRun z B ss .cells) r)) (l .kept k));
-      exact = subst (ExactCells EqualityComparable (length A) ss) (sym (t .first .cells)) (exact (room m) A ss sound);
+      exact = subst (ExactCells Exactable (length A) ss) (sym (t .first .cells)) (exact (room m) A ss sound);
       exact-refined =
-          subst (ExactCells EqualityComparable (length B) ss) (sym (t .second .cells)) (exact (room n) B ss (sound-B m n A B ss sound pair));
+          subst (ExactCells Exactable (length B) ss) (sym (t .second .cells)) (exact (room n) B ss (sound-B m n A B ss sound pair));
     }
 
 -- ---- texts

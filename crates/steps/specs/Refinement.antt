@@ -11,7 +11,7 @@ use Rattle.ops.specs.declared.Step.{Step}
 use Rattle.machine.specs.Machine.{Ending, AtEnd, RefusedAt, machineRun}
 use Rattle.store.specs.Store.{Holds}
 use Rattle.steplist.specs.Listing.{whole}
-use Rattle.knownness.specs.Knownness.{AllKeep, Keeps, Cellwise, AllSound, EqualityComparable, ExactCells}
+use Rattle.knownness.specs.Knownness.{AllKeep, Keeps, Cellwise, AllSound, Exactable, ExactCells}
 use Rattle.steps.specs.Run.{Ran}
 use Rattle.steps.specs.Demand.{LentMemory, room, stepList, runOn, runOf, cellsLeft, Paired}
 
@@ -40,8 +40,8 @@ pub record Refined (m n : LentMemory) (A B : List Vector) (ss : List Step) (p q 
   pub plain : PlainRun m A ss p
   pub plain-refined : PlainRun n B ss q
   pub kept : AllKeep ss → Cellwise Keeps (cellsLeft p) (cellsLeft q)
-  pub exact : ExactCells EqualityComparable (length A) ss (cellsLeft p)
-  pub exact-refined : ExactCells EqualityComparable (length B) ss (cellsLeft q)
+  pub exact : ExactCells Exactable (length A) ss (cellsLeft p)
+  pub exact-refined : ExactCells Exactable (length B) ss (cellsLeft q)
 
 abbrev pub Refinement : Type 0
 Refinement = (m n : LentMemory) (A B : List Vector) (ss : List Step) → AllSound A → Paired m n A B
