@@ -126,7 +126,8 @@ pub struct Run<'a> {
 
 /// Runs the list of a text from an empty store, in lent arenas and scratch planes of any contents. The output has the lines `cell=` and `bits=`
 /// of each step that was run, and then `done=` with their number, or `refused=` with the refusal's number and `step=`: from 1, or 0 for the text
-/// or an input. It stands at the front of `out`. The text is read whole before any step.
+/// or an input. It stands at the front of `out`. The text is read whole before any step. A run that is refused at an input or a step leaves
+/// arenas, scratch and store as those before it have filled them; a text that is no list changes none of them.
 pub fn run<'a>(
     text: &[u8],
     arena_value: &mut [u64],
@@ -136,6 +137,21 @@ pub fn run<'a>(
     out: &'a mut [u8; OUTPUT_BYTES],
 ) -> Run<'a> {
     let mut store = Store::new();
+    let output = run_into(&mut store, text, arena_value, arena_unknown, scratch_value, scratch_unknown, out);
+    Run { store, output }
+}
+
+/// [`run`] into the parts of a store that is there, whose cells are not read. A text that is no list leaves the four arrays as they were.
+#[doc(hidden)]
+pub fn run_into<'a>(
+    store: &mut Store,
+    text: &[u8],
+    arena_value: &mut [u64],
+    arena_unknown: &mut [u64],
+    scratch_value: &mut [u64],
+    scratch_unknown: &mut [u64],
+    out: &'a mut [u8; OUTPUT_BYTES],
+) -> &'a str {
     // A pointer and a length are those of one slice, which is lent for as long as the call runs; what is lent for writing overlaps nothing.
     let r = unsafe {
         raw::vowherunga_run(
@@ -157,6 +173,5 @@ pub fn run<'a>(
         )
     };
     store.count = r.count;
-    let output = std::str::from_utf8(&out[..r.length]).unwrap_or_else(|e| unreachable!("the output is ASCII: {e}"));
-    Run { store, output }
+    std::str::from_utf8(&out[..r.length]).unwrap_or_else(|e| unreachable!("the output is ASCII: {e}"))
 }

@@ -1,14 +1,35 @@
 -- What a run (document 01, "Step list") leaves as it crosses to C: two numbers, the fields of the store ("Cell store"), the lent planes and the
 -- buffer.
+use mathlib.Core.Bool.{Bool, false, cond}
 use Prim.Native.Nat.{ℕ}
 use mathlib.Core.List.{List}
+use lib.Dec.{eqb}
+use denote.Ref.{RefT, now}
 use Rattle.words.specs.Planes.{Planes}
+use Rattle.machine.specs.Machine.{Ending, AtEnd, RefusedAt}
+use Rattle.store.specs.declared.Store.{Store}
 use Rattle.steps.specs.Run.{Final}
-use Rattle.fields.specs.Fields.{fieldsOf, settled, Crossed, crossed}
+use Rattle.fields.specs.declared.Fields.{Fields}
+use Rattle.fields.specs.Fields.{fields, fieldsOf, settled, Crossed, crossed}
 use Rattle.ffi_run.specs.declared.RunResult.{RunResult}
 
--- the cells of the store and the bytes written; arenas, scratch, then the buffer
-abbrev pub crossedRun : Final → Crossed RunResult (Planes × Planes × List ℕ)
-crossedRun w =
+-- the fields in four lent arrays
+abbrev pub fieldsBy : (starts widths : RefT (List ℕ)) (signs fills : RefT (List Bool)) → Fields
+fieldsBy a b c d = fields (now a) (now b) (now c) (now d)
+
+-- the list is refused before its first input: by 6 ("Numbers for what is not done"), which no input and no step is refused by
+abbrev pub refusedWhole : Ending → Bool
+refusedWhole AtEnd = false
+refusedWhole (RefusedAt n step) = eqb n 6
+
+-- the fields of the store that a run leaves; a list that is refused whole changes nothing that is lent
+abbrev pub savedFields : Ending → Store → Fields → Fields
+savedFields e s f = cond (refusedWhole e) f (fieldsOf s)
+
+-- the cells of the store and the bytes written, from the fields f; arenas, scratch, then the buffer
+abbrev pub crossedRun : Fields → Final → Crossed RunResult (Planes × Planes × List ℕ)
+crossedRun f w =
     let s = w .memory .state .store in
-    crossed (settled (record { count = s .count; length = w .out .place }) (fieldsOf s)) (w .memory .state .arenas, w .memory .scratch, w .out .bytes)
+    crossed
+    (settled (record { count = s .count; length = w .out .place }) (savedFields (w .ending) s f))
+    (w .memory .state .arenas, w .memory .scratch, w .out .bytes)

@@ -1,12 +1,41 @@
 // The run of a step list for C and Rust, as numbers, slices and arrays: the store that it leaves crosses as its number of cells and four arrays of
 // 320 places. The export asks nothing of its caller.
 use fields::save;
+use steps::RunAnswer;
+use steps::RunEnding;
 ghost use mathlib.Core.Path.{_≡_};
-ghost use Rattle.words.specs.Planes.{lent};
 ghost use Rattle.lines.specs.Buffer.{buffer};
-ghost use Rattle.steps.specs.Run.{runText, finalOf};
-ghost use Rattle.fields.specs.Fields.{fields, settled, crossed};
-ghost use Rattle.ffi_run.specs.Crossing.{crossedRun};
+ghost use Rattle.steps.specs.Run.{endingOf, runText, finalOf, lentBy};
+ghost use Rattle.fields.specs.Fields.{settled, crossed};
+ghost use Rattle.ffi_run.specs.Crossing.{refusedWhole, fieldsBy, savedFields, crossedRun};
+
+// Whether a run was refused before its first input: by 6.
+fn refused_whole(e: RunEnding) -> bool
+    ensures { λ r. ⌜ r ≡ refusedWhole (endingOf e) ⌝ }
+{
+    match e {
+        RunEnding::Done => false,
+        RunEnding::Refused(r, _) => refusal::number(r) == 6,
+    }
+}
+
+// Writes the four arrays of the store that a run leaves; a list that was refused whole leaves them as they were.
+fn save_run(
+    r: RunAnswer,
+    starts: &mut [usize; 320],
+    widths: &mut [u32; 320],
+    signs: &mut [bool; 320],
+    fills: &mut [bool; 320],
+)
+    ensures { λ _. ⌜ fieldsBy (starts .exit) (widths .exit) (signs .exit) (fills .exit)
+        ≡ savedFields (endingOf (r .ending)) (r .store) (fieldsBy (starts .entry) (widths .entry) (signs .entry) (fills .entry)) ⌝ }
+{
+    let e = r.ending;
+    if refused_whole(e) {
+        return;
+    }
+    save(r.store, starts, widths, signs, fills);
+}
 
 // The cells in the store after a run, and the bytes that it wrote at the front of the buffer.
 #[repr(C)]
@@ -15,7 +44,7 @@ pub struct RunResult {
     pub length: usize,
 }
 
-// `steps::run` from an empty store; the four arrays get the store that it leaves
+// `steps::run` from an empty store; the four arrays get the store that it leaves, unless the text is no step list
 #[no_mangle]
 pub extern "C" fn vowherunga_run(
     text: &[u8],
@@ -29,7 +58,15 @@ pub extern "C" fn vowherunga_run(
     fills: &mut [bool; 320],
     out: &mut [u8; 1052436],
 ) -> RunResult
-    ensures { λ r. ⌜ crossed (settled r (fields (now (starts .exit)) (now (widths .exit)) (now (signs .exit)) (now (fills .exit)))) ((lent (now («arena_value» .exit)) (now («arena_unknown» .exit))), (lent (now («scratch_value» .exit)) (now («scratch_unknown» .exit))), now (out .exit)) ≡ crossedRun (finalOf (runText (lent (now («arena_value» .entry)) (now («arena_unknown» .entry))) (lent (now («scratch_value» .entry)) (now («scratch_unknown» .entry))) (now (text .entry))) (buffer (now (out .entry)) 0)) ⌝ }
+    ensures { λ r. ⌜ crossed (settled r (fieldsBy (starts .exit) (widths .exit) (signs .exit) (fills .exit)))
+        (lentBy («arena_value» .exit) («arena_unknown» .exit), lentBy («scratch_value» .exit) («scratch_unknown» .exit), now (out .exit))
+        ≡ crossedRun (fieldsBy (starts .entry) (widths .entry) (signs .entry) (fills .entry))
+        (finalOf
+        (runText
+        (lentBy («arena_value» .entry) («arena_unknown» .entry))
+        (lentBy («scratch_value» .entry) («scratch_unknown» .entry))
+        (now (text .entry)))
+        (buffer (now (out .entry)) 0)) ⌝ }
 {
     let r = steps::run(
         text,
@@ -39,8 +76,8 @@ pub extern "C" fn vowherunga_run(
         scratch_unknown,
         out,
     );
+    save_run(r, starts, widths, signs, fills);
     let s = r.store;
-    save(s, starts, widths, signs, fills);
     RunResult {
         count: s.count,
         length: r.length,

@@ -12,7 +12,7 @@ use Rattle.words.specs.Vector.{tabulate}
 use Rattle.lines.specs.Buffer.{Buffer, buffer, put}
 use Rattle.output.specs.Output.{doneText}
 use Rattle.ops.specs.declared.Step.{Step}
-use Rattle.store.specs.Store.{state}
+use Rattle.machine.specs.Machine.{AtEnd, RefusedAt}
 use Rattle.store.specs.Step.{Memory, checkMemory, stepVector, stepped, addStep}
 use Rattle.turn.specs.Turn.{resultText}
 use Rattle.steps.specs.Run.{runSteps, final, finalOf}
@@ -49,7 +49,7 @@ module _ (n : ℕ) (f : ℕ → Step) (from : Memory) (out : List ℕ) where
   walk-start p t = record { places = p; thin = t; short = omega arith; long = refl; left = refl }
 
   module _ (m : Memory) (d : List ℕ) (at k : ℕ) (h : Walked from out n f m d at k) where
-    pub walk-done : n ≤ k → finalOf (runSteps from 0 (tabulate n f)) (buffer out 0) ≡ final m (put (buffer d at) (doneText k))
+    pub walk-done : n ≤ k → finalOf (runSteps from 0 (tabulate n f)) (buffer out 0) ≡ final m (put (buffer d at) (doneText k)) AtEnd
     walk-done l = h .left ∙ ap (λ ss. finalOf (runSteps m k ss) (buffer d at)) (none-left n f k l) ∙ steps-done m k d at
 
     module _ (l : k < n) where
@@ -80,10 +80,11 @@ module _ (n : ℕ) (f : ℕ → Step) (from : Memory) (out : List ℕ) where
                   ∙ ap (λ (i : ℕ). finalOf (runSteps t i rest) (buffer e j)) (sym (add-one k));
             }
 
-        pub walk-last : (r : ℕ) → a ≡ refused r → finalOf (runSteps from 0 (tabulate n f)) (buffer out 0) ≡ final t (buffer e j)
+        pub walk-last : (r : ℕ) → a ≡ refused r → finalOf (runSteps from 0 (tabulate n f)) (buffer out 0) ≡ final t (buffer e j) (RefusedAt r (k + 1))
         walk-last r g =
             let left : addStep m (f k) .left ≡ t = sym (ap (λ (o : Outcome ℕ Memory). o .left) called) in
             let answer : addStep m (f k) .answer ≡ refused r = sym (ap (λ (o : Outcome ℕ Memory). o .answer) called) ∙ g in
             onto-step
             ∙ step-last m k d at (f k) rest r answer
-            ∙ ap₂ final left (sym (shown ∙ ap (λ x. put (buffer d at) (resultText x k (stepVector (m .state) (f k) .bits))) g))
+            ∙ ap₂ (λ z b. final z b (RefusedAt r (suc k))) left (sym (shown ∙ ap (λ x. put (buffer d at) (resultText x k (stepVector (m .state) (f k) .bits))) g))
+            ∙ ap (λ i. final t (buffer e j) (RefusedAt r i)) (sym (add-one k))

@@ -10,11 +10,12 @@ use Rattle.lines.specs.Buffer.{buffer, put}
 use Rattle.lines.proofs.Put.{put-put}
 use Rattle.output.specs.Output.{cellText, doneText, refusedText}
 use Rattle.ops.specs.declared.Step.{Step}
-use Rattle.store.specs.Step.{Memory, memory, addStep, stepVector}
+use Rattle.machine.specs.Machine.{AtEnd, RefusedAt}
+use Rattle.store.specs.Step.{Memory, addStep, stepVector}
 use Rattle.steps.specs.Run.{afterStep, runSteps, final, finalOf}
 
 module _ (m : Memory) (k : ℕ) (d : List ℕ) (i : ℕ) where
-  pub steps-done : finalOf (runSteps m k []) (buffer d i) ≡ final m (put (buffer d i) (doneText k))
+  pub steps-done : finalOf (runSteps m k []) (buffer d i) ≡ final m (put (buffer d i) (doneText k)) AtEnd
   unfolding runSteps
   steps-done = refl
 
@@ -27,10 +28,10 @@ module _ (m : Memory) (k : ℕ) (d : List ℕ) (i : ℕ) where
         let rest = runSteps (addStep m s .left) (suc k) ss in
         let bits = stepVector (m .state) s .bits in
         ap (λ a. finalOf (afterStep a (addStep m s .left) k bits rest) (buffer d i)) e
-        ∙ ap (final (rest .memory)) (sym (put-put d i (cellText n bits) (rest .text) h))
+        ∙ ap (λ b. final (rest .memory) b (rest .ending)) (sym (put-put d i (cellText n bits) (rest .text) h))
 
     pub step-last : (n : ℕ) → addStep m s .answer ≡ refused n
-        → finalOf (runSteps m k (s ∷ ss)) (buffer d i) ≡ final (addStep m s .left) (put (buffer d i) (refusedText n (suc k)))
+        → finalOf (runSteps m k (s ∷ ss)) (buffer d i) ≡ final (addStep m s .left) (put (buffer d i) (refusedText n (suc k))) (RefusedAt n (suc k))
     unfolding runSteps
     step-last n e =
         ap (λ a. finalOf (afterStep a (addStep m s .left) k (stepVector (m .state) s .bits) (runSteps (addStep m s .left) (suc k) ss)) (buffer d i)) e

@@ -1,19 +1,25 @@
 -- Document 01, "Step list": the run of a list on a memory, and what it writes. Each input and each step gets the memory as the one before left it.
 use mathlib.Core.List.{List, [], _∷_, _++_}
 use Prim.Native.Nat.{ℕ, suc}
+use denote.Ref.{RefT, now}
 use Rattle.bit.specs.declared.LogicBit.{LogicBit}
+use Rattle.refusal.specs.Refusals.{refusalNumber}
 use Rattle.refusal.specs.Outcome.{Answer}
 use Rattle.refusal.specs.Outcome.Answer.{given, refused}
-use Rattle.words.specs.Planes.{Planes}
-use Rattle.lines.specs.Buffer.{Buffer, put}
+use Rattle.words.specs.Planes.{Planes, lent}
+use Rattle.lines.specs.Buffer.{Buffer, buffer, put}
 use Rattle.output.specs.Output.{doneText, refusedText}
 use Rattle.ops.specs.declared.Step.{Step}
 use Rattle.machine.specs.Machine.{Ending, AtEnd, RefusedAt}
+use Rattle.store.specs.declared.Store.{Store}
 use Rattle.store.specs.Store.{state, emptyStore}
 use Rattle.store.specs.Step.{Memory, memory, addStep, stepVector}
 use Rattle.inputs.specs.Inputs.{addInputs}
 use Rattle.turn.specs.Turn.{resultText}
 use Rattle.steplist.specs.Listing.{StepList, whole}
+use Rattle.steps.specs.declared.RunEnding.{RunEnding}
+use Rattle.steps.specs.declared.RunEnding.the-variants as run-ending
+use Rattle.steps.specs.declared.RunAnswer.{RunAnswer}
 
 -- the memory that a run leaves, the text that it writes, and how it ends
 pub record Ran : Type 0 where
@@ -77,13 +83,29 @@ runText arenas scratch t = runWhole (emptied arenas scratch) (whole t)
 
 -- ---- `run`
 
--- all that `run` leaves: the memory, and its text at the front of the buffer, whose further bytes stay
+-- the ending in the paper's numbers
+abbrev pub endingOf : RunEnding → Ending
+endingOf run-ending.Done = AtEnd
+endingOf (run-ending.Refused r step) = RefusedAt (refusalNumber r) step
+
+-- all that `run` leaves: the memory, its text at the front of the buffer, whose further bytes stay, and how it ended
 pub record Final : Type 0 where
   pub memory : Memory
   pub out : Buffer
+  pub ending : Ending
 
-abbrev pub final : Memory → Buffer → Final
-final m b = record { memory = m; out = b }
+abbrev pub final : Memory → Buffer → Ending → Final
+final m b e = record { memory = m; out = b; ending = e }
 
 abbrev pub finalOf : Ran → Buffer → Final
-finalOf r b = final (r .memory) (put b (r .text))
+finalOf r b = final (r .memory) (put b (r .text)) (r .ending)
+
+-- two lent planes, a memory that is lent, and what a run leaves of it, by the references
+abbrev pub lentBy : (value unknown : RefT (List ℕ)) → Planes
+lentBy v u = lent (now v) (now u)
+
+abbrev pub memoryBy : Store → (av au sv su : RefT (List ℕ)) → Memory
+memoryBy s av au sv su = memory (state s (lentBy av au)) (lentBy sv su)
+
+abbrev pub finalBy : RunAnswer → (av au sv su out : RefT (List ℕ)) → Final
+finalBy r av au sv su out = final (memoryBy (r .store) av au sv su) (buffer (now out) (r .length)) (endingOf (r .ending))

@@ -1,5 +1,6 @@
 // The steps of a list. This asks its caller for a list that was read from the text and for room in the buffer.
 use crate::RunAnswer;
+use crate::RunEnding;
 use output::inner::put_done;
 use steplist::StepList;
 use store::CellAnswer;
@@ -8,13 +9,10 @@ use turn::inner::put_step;
 ghost use mathlib.Core.Path.{_≡_};
 ghost use Prim.Native.Nat.{_≤_, _<_};
 ghost use lib.ListN.{length};
-ghost use Rattle.words.specs.Planes.{lent};
 ghost use Rattle.lines.specs.Buffer.{buffer};
-ghost use Rattle.store.specs.Store.{state};
-ghost use Rattle.store.specs.Step.{memory};
 ghost use Rattle.steplist.specs.Answers.{stepsIn};
 ghost use Rattle.inputs.specs.Limits.{AllThin};
-ghost use Rattle.steps.specs.Run.{runSteps, final, finalOf};
+ghost use Rattle.steps.specs.Run.{runSteps, finalOf, memoryBy, finalBy};
 
 // Runs the steps of the list on the store, up to the first that is refused, and writes their lines.
 pub fn run_steps(
@@ -28,7 +26,13 @@ pub fn run_steps(
 ) -> RunAnswer
     requires { ⌜ (list .«step_count» ≤ 256) × (1052436 ≤ length (now out)) ⌝ }
     requires { ⌜ AllThin from ⌝ }
-    ensures { λ r. ⌜ final (memory (state (r .store) (lent (now («arena_value» .exit)) (now («arena_unknown» .exit)))) (lent (now («scratch_value» .exit)) (now («scratch_unknown» .exit)))) (buffer (now (out .exit)) (r .length)) ≡ finalOf (runSteps (memory (state from (lent (now («arena_value» .entry)) (now («arena_unknown» .entry)))) (lent (now («scratch_value» .entry)) (now («scratch_unknown» .entry)))) 0 (stepsIn (list .«step_count») (list .steps))) (buffer (now (out .entry)) 0) ⌝ }
+    ensures { λ r. ⌜ finalBy r («arena_value» .exit) («arena_unknown» .exit) («scratch_value» .exit) («scratch_unknown» .exit) (out .exit)
+        ≡ finalOf
+        (runSteps
+        (memoryBy from («arena_value» .entry) («arena_unknown» .entry) («scratch_value» .entry) («scratch_unknown» .entry))
+        0
+        (stepsIn (list .«step_count») (list .steps)))
+        (buffer (now (out .entry)) 0) ⌝ }
 {
     let mut s = from;
     let mut at = 0;
@@ -46,10 +50,12 @@ pub fn run_steps(
         let answer = t.answer;
         at = put_step(answer, s, k as u32, scratch_value, scratch_unknown, out, at);
         match answer {
-            CellAnswer::Refused(_) => {
+            CellAnswer::Refused(r) => {
+                let number = k as u32 + 1;
                 return RunAnswer {
                     store: s,
                     length: at,
+                    ending: RunEnding::Refused(r, number),
                 };
             }
             CellAnswer::Added(_) => {}
@@ -60,5 +66,6 @@ pub fn run_steps(
     RunAnswer {
         store: s,
         length: e,
+        ending: RunEnding::Done,
     }
 }

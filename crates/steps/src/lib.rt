@@ -1,22 +1,27 @@
 // A step list, run: its text is read whole, its inputs and steps are added to an empty store, and the lines that it writes stand in a buffer.
 use inputs::inner::add_inputs;
 use output::inner::put_refused;
+use refusal::Refusal;
 use refusal::Verdict;
 use steplist::read_list;
 use store::Store;
 ghost use mathlib.Core.Path.{_≡_};
-ghost use Rattle.words.specs.Planes.{lent};
 ghost use Rattle.lines.specs.Buffer.{buffer};
-ghost use Rattle.store.specs.Store.{state};
-ghost use Rattle.store.specs.Step.{memory};
-ghost use Rattle.steps.specs.Run.{runText, final, finalOf};
+ghost use Rattle.steps.specs.Run.{runText, finalOf, lentBy, finalBy};
 
 pub mod inner;
 
-// The store that a run leaves, and how many bytes it wrote at the front of the buffer.
+// How a run ended: with every step run, or by a refusal at a step, counted from 1; 0 is the text or an input.
+pub enum RunEnding {
+    Done,
+    Refused(Refusal, u32),
+}
+
+// The store that a run leaves, how many bytes it wrote at the front of the buffer, and how it ended.
 pub struct RunAnswer {
     pub store: Store,
     pub length: usize,
+    pub ending: RunEnding,
 }
 
 // Runs the step list that stands in `text`, from an empty store. The buffer has room for the lines of 256 steps of 4,096 bits and of a refusal.
@@ -28,7 +33,13 @@ pub fn run(
     scratch_unknown: &mut [u64],
     out: &mut [u8; 1052436],
 ) -> RunAnswer
-    ensures { λ r. ⌜ final (memory (state (r .store) (lent (now («arena_value» .exit)) (now («arena_unknown» .exit)))) (lent (now («scratch_value» .exit)) (now («scratch_unknown» .exit)))) (buffer (now (out .exit)) (r .length)) ≡ finalOf (runText (lent (now («arena_value» .entry)) (now («arena_unknown» .entry))) (lent (now («scratch_value» .entry)) (now («scratch_unknown» .entry))) (now (text .entry))) (buffer (now (out .entry)) 0) ⌝ }
+    ensures { λ r. ⌜ finalBy r («arena_value» .exit) («arena_unknown» .exit) («scratch_value» .exit) («scratch_unknown» .exit) (out .exit)
+        ≡ finalOf
+        (runText
+        (lentBy («arena_value» .entry) («arena_unknown» .entry))
+        (lentBy («scratch_value» .entry) («scratch_unknown» .entry))
+        (now (text .entry)))
+        (buffer (now (out .entry)) 0) ⌝ }
 {
     let a = read_list(text);
     let verdict = a.verdict;
@@ -38,6 +49,7 @@ pub fn run(
             RunAnswer {
                 store: Store::new(),
                 length: put_refused(out, 0, n, 0),
+                ending: RunEnding::Refused(r, 0),
             }
         }
         Verdict::Accepted => {
@@ -50,6 +62,7 @@ pub fn run(
                     RunAnswer {
                         store: s,
                         length: put_refused(out, 0, m, 0),
+                        ending: RunEnding::Refused(q, 0),
                     }
                 }
                 Verdict::Accepted => inner::run_steps(

@@ -11,7 +11,7 @@ pub struct CellResult {
     pub cell: usize,
 }
 
-/// How many cells the store has, and how many bytes were written.
+/// How many cells the store has, and how many bytes were written. The arrays are written unless the text is no step list (refusal 6).
 #[repr(C)]
 pub struct RunResult {
     pub count: usize,

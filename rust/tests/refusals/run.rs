@@ -1,14 +1,19 @@
 //! The run of a step list: where it is refused, what its output says, and that what was there stays.
 use crate::lent::Lent;
-use vowherunga::steps::{run, OUTPUT_BYTES};
+use vowherunga::steps::{run, run_into, OUTPUT_BYTES};
+use vowherunga::store::{Store, MAX_CELLS};
 
 const STOOD: u64 = 0x0123_4567_89ab_cdef;
+
+fn buffer() -> Box<[u8; OUTPUT_BYTES]> {
+    vec![0xee; OUTPUT_BYTES].try_into().unwrap()
+}
 
 /// The output of a run in planes of some lengths (two arenas, two scratch planes), the cells it filled, and the planes as it left them.
 fn runs(text: &str, lengths: [usize; 4]) -> (String, usize, [Vec<u64>; 4]) {
     let mut planes = lengths.map(|words| Lent::new(&vec![STOOD; words]));
     let [av, au, sv, su] = &mut planes;
-    let mut out: Box<[u8; OUTPUT_BYTES]> = vec![0xee; OUTPUT_BYTES].try_into().unwrap();
+    let mut out = buffer();
     let ran = run(text.as_bytes(), av.plane(), au.plane(), sv.plane(), su.plane(), &mut out);
     let (output, count) = (ran.output.to_string(), ran.store.count);
     assert!(
@@ -26,19 +31,78 @@ fn list(first: &str, second: &str) -> String {
 const AND: &str = "op=and\na=0\nb=1\nc=0\n";
 const ROR: &str = "op=ror\na=2\nb=0\nc=0\n";
 
+/// Texts that are no step list.
+fn no_lists() -> Vec<String> {
+    vec![
+        String::new(),
+        "inputs=0\nsteps=0".to_string(),
+        "inputs=65\nsteps=0\n".to_string(),
+        list(AND, ""),
+        list(AND, ROR) + "\n",
+        "0".repeat(70_000),
+    ]
+}
+
 #[test]
 fn of_a_text() {
-    for text in [
-        "",
-        "inputs=0\nsteps=0",
-        "inputs=65\nsteps=0\n",
-        &list(AND, ""),
-        &(list(AND, ROR) + "\n"),
-        &"0".repeat(70_000),
-    ] {
-        let (output, count, planes) = runs(text, [4, 4, 1, 1]);
+    for text in no_lists() {
+        let (output, count, planes) = runs(&text, [4, 4, 1, 1]);
         assert_eq!((&output[..], count), ("refused=6\nstep=0\n", 0));
         assert!(planes.iter().flatten().all(|word| *word == STOOD), "a refused run wrote");
+    }
+}
+
+/// The store after a run into parts that hold something else, its output, and the planes.
+fn runs_into(text: &str) -> (Store, String, [Vec<u64>; 4]) {
+    let mut store = other_store();
+    let mut planes = [4, 4, 1, 1].map(|words| Lent::new(&vec![STOOD; words]));
+    let [av, au, sv, su] = &mut planes;
+    let mut out = buffer();
+    let output = run_into(
+        &mut store,
+        text.as_bytes(),
+        av.plane(),
+        au.plane(),
+        sv.plane(),
+        su.plane(),
+        &mut out,
+    )
+    .to_string();
+    (store, output, planes.map(Lent::left))
+}
+
+/// A store that no run leaves.
+fn other_store() -> Store {
+    Store {
+        starts: std::array::from_fn(|i| 1000 + i),
+        widths: std::array::from_fn(|i| 7 + i as u32),
+        signs: std::array::from_fn(|i| i % 2 == 0),
+        fills: std::array::from_fn(|i| i % 3 == 0),
+        count: MAX_CELLS,
+    }
+}
+
+#[test]
+fn of_a_text_leaves_the_store_arrays() {
+    for text in no_lists() {
+        let (store, output, planes) = runs_into(&text);
+        assert_eq!(output, "refused=6\nstep=0\n");
+        assert_eq!(store, Store { count: 0, ..other_store() }, "a refused run wrote the store's arrays");
+        assert!(planes.iter().flatten().all(|word| *word == STOOD), "a refused run wrote");
+    }
+    // where the text is a list, the arrays are those of the run's store
+    for text in [
+        list(AND, ROR),
+        list(ROR, AND),
+        "inputs=1\nsteps=0\nwidth=0\nkind=f\nbits=\n".to_string(),
+    ] {
+        let mut planes = [4, 4, 1, 1].map(|words| vec![STOOD; words]);
+        let [av, au, sv, su] = &mut planes;
+        let mut out = buffer();
+        let ran = run(text.as_bytes(), av, au, sv, su, &mut out);
+        let (store, output, left) = runs_into(&text);
+        assert_eq!((&store, &output[..]), (&ran.store, ran.output));
+        assert_eq!(left, planes);
     }
 }
 

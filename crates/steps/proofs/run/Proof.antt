@@ -5,11 +5,13 @@ use Prim.Native.Nat.{ℕ}
 use native.Mathlib.Omega.{arith}
 use Rattle.refusal.specs.declared.Verdict.{Verdict}
 use Rattle.refusal.specs.declared.Verdict.the-variants.{Accepted, Refused}
+use Rattle.refusal.specs.Refusals.{refusalNumber}
 use Rattle.refusal.specs.Outcome.{Answer, Outcome, outcome, after, verdict}
 use Rattle.refusal.specs.Outcome.Answer.{given}
 use Rattle.words.specs.Planes.{Planes, lent}
 use Rattle.lines.specs.Buffer.{Buffer, buffer, put}
 use Rattle.output.specs.Output.{refusedText}
+use Rattle.machine.specs.Machine.{RefusedAt}
 use Rattle.store.specs.Store.{State, state}
 use Rattle.store.specs.Step.{memory}
 use Rattle.steplist.specs.Listing.{StepList, whole}
@@ -135,7 +137,7 @@ returns c =
     let v = n .before .before in
     let k = v .before .before in
     let r = v .verdict .given in
-    ap₂ (λ s o. final (memory (state s (arenas k)) (scratch k)) o) (c .before .before .new .ensures)
+    ap₂ (λ s o. final (memory (state s (arenas k)) (scratch k)) o (RefusedAt (refusalNumber (r .0 .0)) 0)) (c .before .before .new .ensures)
     (c .put-refused .ensures ∙ ap (λ i. put (out k) (refusedText i 0)) (n .number .ensures))
     ∙ ap (rest k) (told k (Refused (r .0 .0)) (r .1))
 
@@ -152,7 +154,7 @@ returns-2 c =
     let f = v .before .before .before .before .before .before .before in
     let k = read (accepted f) in
     let r = v .fed-verdict .given in
-    ap (final (memory (left f) (scratch k))) (c .put-refused2 .ensures ∙ ap (λ i. put (out k) (refusedText i 0)) (n .number2 .ensures))
+    ap (λ o. final (memory (left f) (scratch k)) o (RefusedAt (refusalNumber (r .0 .0)) 0)) (c .put-refused2 .ensures ∙ ap (λ i. put (out k) (refusedText i 0)) (n .number2 .ensures))
     ∙ by-inputs f (Refused (r .0 .0)) (r .1)
 
 same-length-3 : tie.Need-same-length-3

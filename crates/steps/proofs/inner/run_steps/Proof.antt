@@ -9,6 +9,7 @@ use Rattle.refusal.specs.Outcome.{Answer, outcome}
 use Rattle.words.specs.Planes.{lent}
 use Rattle.lines.specs.Buffer.{buffer, put}
 use Rattle.ops.specs.declared.Step.{Step}
+use Rattle.machine.specs.Machine.{AtEnd}
 use Rattle.store.specs.declared.Store.{Store}
 use Rattle.store.specs.Store.{state, cellAnswer}
 use Rattle.output.specs.Output.{doneText}
@@ -124,8 +125,22 @@ put-step-requires c κs =
     let i = l a .loop .inv .walked in
     ((omega (arith, inside a, g .0), omega (arith, inside a, g .0, g .1, i .short, i .long)), told a .0)
 
-enum-told : tie.Need-enum-told Inv-loop μ-loop
-enum-told c = search needs
+enum-known-answer : tie.Need-enum-known-answer Inv-loop μ-loop
+enum-known-answer c = search needs
+
+-- a step that is refused
+module _ (r : tie.After-known-told Inv-loop μ-loop) where
+  abbrev shown-last : tie.After-put-step Inv-loop μ-loop
+  shown-last = r .before .before .before .before .before
+
+  few : place (add shown-last) < 256
+  few = let a = add shown-last in omega (arith, inside a, st a .pre .0 .0)
+
+cast-number : tie.Need-cast-number Inv-loop μ-loop
+cast-number c = omega (arith, few c)
+
+add-number : tie.Need-add-number Inv-loop μ-loop
+add-number c = omega (arith, few c)
 
 same-length : tie.Need-same-length Inv-loop μ-loop
 same-length c = search needs
@@ -144,13 +159,14 @@ same-length-5 c = search needs
 
 returns : tie.Need-returns Inv-loop μ-loop
 returns c =
-    let p = c .before .before .before .before in
+    let p = shown-last c in
     let a = add p in
+    let r = c .before .answer .given in
     sym (walk-last (st a .args .t1 .«step_count») (step (st a .args .t1)) (entered (st a)) (st a .args .out .now) (m a) (l a .loop .out) (l a .loop .at) (l a .loop .k) (l a .loop .inv .walked) (inside a)
-    (answer a) (left a) (bytes p) (p .put-step .result) (called a) (shown p) (refusalNumber (c .enum-told .given .0 .0)) (ap cellAnswer (c .enum-told .given .1)))
+    (answer a) (left a) (bytes p) (p .put-step .result) (called a) (shown p) (refusalNumber (r .0 .0)) (ap cellAnswer (r .1)))
 
-enum-told-2 : tie.Need-enum-told-2 Inv-loop μ-loop
-enum-told-2 c = search needs
+enum-told : tie.Need-enum-told Inv-loop μ-loop
+enum-told c = search needs
 
 add-k : tie.Need-add-k Inv-loop μ-loop
 add-k c = let a = add (c .before .before .before .before) in omega (arith, inside a, st a .pre .0 .0)
@@ -174,7 +190,7 @@ loop-again c =
       within = omega (arith, inside a);
       walked =
           walk-more (st a .args .t1 .«step_count») (step (st a .args .t1)) (entered (st a)) (st a .args .out .now) (m a) (l a .loop .out) (l a .loop .at) (l a .loop .k) i (inside a)
-          (answer a) (left a) (bytes p) (p .put-step .result) (called a) (shown p) (c .enum-told2 .given .0 .0) (ap cellAnswer (c .enum-told2 .given .1))
+          (answer a) (left a) (bytes p) (p .put-step .result) (called a) (shown p) (c .enum-told .given .0 .0) (ap cellAnswer (c .enum-told .given .1))
           (omega (arith, inside a, st a .pre .0 .0, st a .pre .0 .1, i .short, i .long)) (p .put-step .ensures .1) same;
     }
 
@@ -213,7 +229,7 @@ returns-2 c =
     let m = held (l .loop .s) (l .loop .arena-value) (l .loop .arena-unknown) (l .loop .scratch-value) (l .loop .scratch-unknown) in
     let e : l .loop .k ≡ g .t1 .«step_count» = omega (arith, i .within, c .before .before .before .before .loop-test .left) in
     sym (walk-done (g .t1 .«step_count») (step (g .t1)) (entered s) (g .out .now) m (l .loop .out) (l .loop .at) (l .loop .k) (i .walked) (c .before .before .before .before .loop-test .left)
-    ∙ ap (λ k. final m (put (buffer (l .loop .out) (l .loop .at)) (doneText k))) e ∙ ap (final m) (sym (d .put-done .ensures)))
+    ∙ ap (λ k. final m (put (buffer (l .loop .out) (l .loop .at)) (doneText k)) AtEnd) e ∙ ap (λ b. final m b AtEnd) (sym (d .put-done .ensures)))
 
 pub run-steps-spec : {M : Type 1} → statement M
 run-steps-spec =
@@ -227,14 +243,16 @@ run-steps-spec =
     add-step-requires
     cast-put-step
     put-step-requires
-    enum-told
+    enum-known-answer
+    cast-number
+    add-number
     same-length
     same-length-2
     same-length-3
     same-length-4
     same-length-5
     returns
-    enum-told-2
+    enum-told
     add-k
     loop-less
     loop-again
