@@ -1,4 +1,5 @@
 -- Words joined by lanes.
+--     formula          the rules that read a lane formula off the code
 --     both, one        lane formulas that pass the computed test give the rule's word
 --     not-word         those of not
 --     whole-word       the lanes of two words that hold an operand's bits are a word of the result
@@ -8,7 +9,7 @@ use mathlib.Core.Path.{_≡_, refl, sym, ap, ap₂, _∙_}
 use mathlib.Core.List.{List}
 use Prim.Native.Nat.{ℕ, _+_, _-_, _*_, _^_, _≤_, _<_, min}
 use native.Mathlib.Omega.{arith}
-use lib.Bits.{bitAnd}
+use lib.Bits.{bitAnd, bitOr, bitXor}
 use lib.Dec.{T}
 use lib.ListN.{getD}
 use lib.Pow.{pow-pos}
@@ -32,14 +33,47 @@ laneOne f a = packed (λ j. f (bitOf a j))
 unfoldable pub cutWord : ℕ → ℕ → Word → Word
 cutWord w k x = record { value = bitAnd (x .value) (2 ^ min 64 (w - k * 64) - 1); unknown = bitAnd (x .unknown) (2 ^ min 64 (w - k * 64) - 1) }
 
-pub both : (f : LogicBit → LogicBit → LogicBit) (v u : Lane) → T (gives v (λ a b. valueDigit (f a b))) → T (gives u (λ a b. unknownDigit (f a b)))
-    → (a b : Word) → a .value < 2 ^ 64 → a .unknown < 2 ^ 64 → b .value < 2 ^ 64 → b .unknown < 2 ^ 64
-    → wordBy (word v (a .value) (a .unknown) (b .value) (b .unknown)) (word u (a .value) (a .unknown) (b .value) (b .unknown)) ≡ laneWord f a b
+-- a lane formula that gives x on the words of a and b
+pub record Formula (a b : Word) (x : ℕ) : Type 0 where
+  pub expr : Lane
+  pub same : x ≡ word expr (a .value) (a .unknown) (b .value) (b .unknown)
+
+module _ {a b : Word} where
+  abbrev pub left-value : Formula a b (a .value)
+  left-value = record { expr = Lane.av; same = refl }
+
+  abbrev pub left-unknown : Formula a b (a .unknown)
+  left-unknown = record { expr = Lane.au; same = refl }
+
+  abbrev pub right-value : Formula a b (b .value)
+  right-value = record { expr = Lane.bv; same = refl }
+
+  abbrev pub right-unknown : Formula a b (b .unknown)
+  right-unknown = record { expr = Lane.bu; same = refl }
+
+  abbrev pub by-neg : {x : ℕ} → Formula a b x → Formula a b ((2 ^ 64 - 1) - x)
+  by-neg h = record { expr = Lane.neg (h .expr); same = ap (λ (x : ℕ). (2 ^ 64 - 1) - x) (h .same) }
+
+  abbrev pub by-and : {x y : ℕ} → Formula a b x → Formula a b y → Formula a b (bitAnd x y)
+  by-and h k = record { expr = Lane.and (h .expr) (k .expr); same = ap₂ bitAnd (h .same) (k .same) }
+
+  abbrev pub by-or : {x y : ℕ} → Formula a b x → Formula a b y → Formula a b (bitOr x y)
+  by-or h k = record { expr = Lane.or (h .expr) (k .expr); same = ap₂ bitOr (h .same) (k .same) }
+
+  abbrev pub by-xor : {x y : ℕ} → Formula a b x → Formula a b y → Formula a b (bitXor x y)
+  by-xor h k = record { expr = Lane.xor (h .expr) (k .expr); same = ap₂ bitXor (h .same) (k .same) }
+
+-- `search formula` finds the formula of a word that the code works out
+pub ruleset formula = (left-value, left-unknown, right-value, right-unknown, by-neg, by-and, by-or, by-xor)
+
+pub both : (f : LogicBit → LogicBit → LogicBit) (a b : Word) {x y : ℕ} (v : Formula a b x) (u : Formula a b y)
+    → T (gives (v .expr) (λ a b. valueDigit (f a b))) → T (gives (u .expr) (λ a b. unknownDigit (f a b)))
+    → a .value < 2 ^ 64 → a .unknown < 2 ^ 64 → b .value < 2 ^ 64 → b .unknown < 2 ^ 64 → wordBy x y ≡ laneWord f a b
 unfolding laneWord
-both f v u tv tu a b hp hq hr hs =
+both f a b v u tv tu hp hq hr hs =
     ap₂ wordBy
-    (lane (a .value) (a .unknown) (b .value) (b .unknown) hp hq hr hs v (λ x y. valueDigit (f x y)) tv)
-    (lane (a .value) (a .unknown) (b .value) (b .unknown) hp hq hr hs u (λ x y. unknownDigit (f x y)) tu)
+    (v .same ∙ lane (a .value) (a .unknown) (b .value) (b .unknown) hp hq hr hs (v .expr) (λ x y. valueDigit (f x y)) tv)
+    (u .same ∙ lane (a .value) (a .unknown) (b .value) (b .unknown) hp hq hr hs (u .expr) (λ x y. unknownDigit (f x y)) tu)
 
 pub one : (f : LogicBit → LogicBit) (v u : Lane) → T (gives v (λ a b. valueDigit (f a))) → T (gives u (λ a b. unknownDigit (f a)))
     → (a : Word) → a .value < 2 ^ 64 → a .unknown < 2 ^ 64

@@ -1,6 +1,8 @@
-// The operators on single words: each of the 64 places by its single-bit rule, in a few word operations.
+// The operators on single words: each of the 64 places by its single-bit rule, in a few word operations. One function for each operator, and
+// the choice among them.
 use words::Word;
 ghost use mathlib.Core.Path.{_≡_};
+ghost use Rattle.bit.specs.Rules.{andBit, orBit, xorBit, mergeBit};
 ghost use Rattle.lanes.specs.Lanes.{opBit, laneWord};
 
 // An operator that joins two vectors place by place.
@@ -11,40 +13,73 @@ pub enum Bitwise {
     Merge,
 }
 
-// The operator on one word of each operand. And: a known 0 on either side gives 0, two known 1s give 1. Or: a known 1 on either side gives 1, two
-// known 0s give 0. Xor: whether they differ, where both are known. Merge: known only where both are known and equal. Anything else is x.
-pub fn lanes(op: Bitwise, a: Word, b: Word) -> Word
-    ensures { λ r. ⌜ r ≡ laneWord (opBit op) a b ⌝ }
+// And: a known 0 on either side gives 0, two known 1s give 1, anything else is x.
+pub fn and_lanes(a: Word, b: Word) -> Word
+    ensures { λ r. ⌜ r ≡ laneWord andBit a b ⌝ }
 {
     let av = a.value;
     let au = a.unknown;
     let bv = b.value;
     let bu = b.unknown;
+    let one = av & !au & bv & !bu;
+    Word {
+        value: one,
+        unknown: (av | au) & (bv | bu) & !one,
+    }
+}
+
+// Or: a known 1 on either side gives 1, two known 0s give 0, anything else is x.
+pub fn or_lanes(a: Word, b: Word) -> Word
+    ensures { λ r. ⌜ r ≡ laneWord orBit a b ⌝ }
+{
+    let av = a.value;
+    let au = a.unknown;
+    let bv = b.value;
+    let bu = b.unknown;
+    let one = (av & !au) | (bv & !bu);
+    Word {
+        value: one,
+        unknown: (au | bu) & !one,
+    }
+}
+
+// Xor: whether two known bits differ; x where either is unknown.
+pub fn xor_lanes(a: Word, b: Word) -> Word
+    ensures { λ r. ⌜ r ≡ laneWord xorBit a b ⌝ }
+{
+    let av = a.value;
+    let au = a.unknown;
+    let bv = b.value;
+    let bu = b.unknown;
+    Word {
+        value: (av ^ bv) & !(au | bu),
+        unknown: au | bu,
+    }
+}
+
+// Merge: the bit where both are known and equal, anything else is x.
+pub fn merge_lanes(a: Word, b: Word) -> Word
+    ensures { λ r. ⌜ r ≡ laneWord mergeBit a b ⌝ }
+{
+    let av = a.value;
+    let au = a.unknown;
+    let bv = b.value;
+    let bu = b.unknown;
+    let differ = (au | bu) | (av ^ bv);
+    Word {
+        value: av & !differ,
+        unknown: differ,
+    }
+}
+
+// The choice among the four, for callers that serve every operator with one loop; it holds no formula of its own.
+pub fn lanes(op: Bitwise, a: Word, b: Word) -> Word
+    ensures { λ r. ⌜ r ≡ laneWord (opBit op) a b ⌝ }
+{
     match op {
-        Bitwise::And => {
-            let one = av & !au & bv & !bu;
-            Word {
-                value: one,
-                unknown: (av | au) & (bv | bu) & !one,
-            }
-        }
-        Bitwise::Or => {
-            let one = (av & !au) | (bv & !bu);
-            Word {
-                value: one,
-                unknown: (au | bu) & !one,
-            }
-        }
-        Bitwise::Xor => Word {
-            value: (av ^ bv) & !(au | bu),
-            unknown: au | bu,
-        },
-        Bitwise::Merge => {
-            let differ = (au | bu) | (av ^ bv);
-            Word {
-                value: av & !differ,
-                unknown: differ,
-            }
-        }
+        Bitwise::And => and_lanes(a, b),
+        Bitwise::Or => or_lanes(a, b),
+        Bitwise::Xor => xor_lanes(a, b),
+        Bitwise::Merge => merge_lanes(a, b),
     }
 }

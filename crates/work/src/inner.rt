@@ -7,7 +7,8 @@ use fold::inner::xor_bits;
 use join::inner::join_planes;
 use join::inner::not_planes;
 use lanes::Bitwise;
-use lanes::lanes;
+use lanes::and_lanes;
+use lanes::or_lanes;
 use ops::Family;
 use ops::Op;
 use ops::Question;
@@ -60,7 +61,8 @@ fn truth_word(t: Truth) -> Word
 fn answer(q: Question, a: Header, av: &[u64], au: &[u64], b: Header, bv: &[u64], bu: &[u64]) -> Word
     requires { ⌜ Plane (a .width) (now av) × Plane (a .width) (now au) ⌝ }
     requires { ⌜ Plane (b .width) (now bv) × Plane (b .width) (now bu) ⌝ }
-    ensures { λ r. ⌜ bitOf r 0 ≡ answerBit q (vector a (lent (now (av .entry)) (now (au .entry)))) (vector b (lent (now (bv .entry)) (now (bu .entry)))) ⌝ }
+    ensures { λ r. ⌜ bitOf r 0
+        ≡ answerBit q (vector a (lent (now (av .entry)) (now (au .entry)))) (vector b (lent (now (bv .entry)) (now (bu .entry)))) ⌝ }
 {
     match q {
         Question::ReduceAnd => filled(and_bits(a.width, av, au)),
@@ -70,12 +72,12 @@ fn answer(q: Question, a: Header, av: &[u64], au: &[u64], b: Header, bv: &[u64],
         Question::LogicAnd => {
             let x = truth_word(contains(a.width, av, au, true));
             let y = truth_word(contains(b.width, bv, bu, true));
-            lanes(Bitwise::And, x, y)
+            and_lanes(x, y)
         }
         Question::LogicOr => {
             let x = truth_word(contains(a.width, av, au, true));
             let y = truth_word(contains(b.width, bv, bu, true));
-            lanes(Bitwise::Or, x, y)
+            or_lanes(x, y)
         }
     }
 }

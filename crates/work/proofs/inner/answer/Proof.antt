@@ -83,8 +83,8 @@ contains-requires-3 c κs = search needs
 truth-word-requires-3 : tie.Need-truth-word-requires-3
 truth-word-requires-3 c κs = search needs
 
-lanes-requires : tie.Need-lanes-requires
-lanes-requires c κs = search needs
+and-lanes-requires : tie.Need-and-lanes-requires
+and-lanes-requires c κs = search needs
 
 enum-told-5 : tie.Need-enum-told-5
 enum-told-5 c = search needs
@@ -101,8 +101,8 @@ contains-requires-5 c κs = search needs
 truth-word-requires-5 : tie.Need-truth-word-requires-5
 truth-word-requires-5 c κs = search needs
 
-lanes-requires-2 : tie.Need-lanes-requires-2
-lanes-requires-2 c κs = search needs
+or-lanes-requires : tie.Need-or-lanes-requires
+or-lanes-requires c κs = search needs
 
 returns : tie.Need-returns
 returns c =
@@ -133,7 +133,7 @@ returns-5 : tie.Need-returns-5
 returns-5 c =
     let y = c .before in
     let x = y .before .before in
-    low (c .lanes .ensures)
+    low (c .and-lanes .ensures)
     ∙ lane-bit andBit (x .truth-word2 .result) (y .truth-word3 .result)
     ∙ ap₂ andBit (x .truth-word2 .ensures ∙ ap truthBit (x .before .contains2 .ensures)) (y .truth-word3 .ensures ∙ ap truthBit (y .before .contains3 .ensures))
     ∙ told (x .before .before .before .before) _ (x .before .before .enum-told4 .given .1)
@@ -142,7 +142,7 @@ returns-6 : tie.Need-returns-6
 returns-6 c =
     let y = c .before in
     let x = y .before .before in
-    low (c .lanes2 .ensures)
+    low (c .or-lanes .ensures)
     ∙ lane-bit orBit (x .truth-word4 .result) (y .truth-word5 .result)
     ∙ ap₂ orBit (x .truth-word4 .ensures ∙ ap truthBit (x .before .contains4 .ensures)) (y .truth-word5 .ensures ∙ ap truthBit (y .before .contains5 .ensures))
     ∙ told (x .before .before .before .before) _ (x .before .before .enum-told5 .given .1)
@@ -168,13 +168,13 @@ answer-spec =
     truth-word-requires-2
     contains-requires-3
     truth-word-requires-3
-    lanes-requires
+    and-lanes-requires
     enum-told-5
     contains-requires-4
     truth-word-requires-4
     contains-requires-5
     truth-word-requires-5
-    lanes-requires-2
+    or-lanes-requires
     returns
     returns-2
     returns-3
