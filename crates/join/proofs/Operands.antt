@@ -1,5 +1,6 @@
--- Two operands that are read by their extents, joined at the larger width.
---     left-narrow, right-narrow          the extents are no wider than the operands
+-- Two operands that are read by their extents, joined at a width that neither passes.
+--     narrow                             an extent is no wider than the operand
+--     settled                            joined as the extents say, they are joined by the operator
 --     all-written                        the planes of the result, once every word is written
 --     value-written, unknown-written     words of the result from those of the planes, where both operands have them whole
 use mathlib.Core.Path.{_≡_, sym, ap, ap₂, _∙_}
@@ -7,7 +8,6 @@ use mathlib.Core.List.{List}
 use Prim.Native.Nat.{ℕ, _/_, _≤_, _<_, min, max}
 use native.Mathlib.Omega.{arith}
 use lib.ListN.{length, getD}
-use Rattle.bit.specs.declared.LogicBit.{LogicBit}
 use Rattle.words.specs.declared.Word.{Word}
 use Rattle.words.specs.Vector.{at, tabulate, FilledTo}
 use Rattle.words.specs.Planes.{valueDigit, unknownDigit, wordCount, fromPlanes, wordOf, wordAt, Planes, lent, planesOf, wordBy}
@@ -20,24 +20,17 @@ use Rattle.value.specs.Checks.{vector}
 use Rattle.extension.specs.Extension.{operandAt, extentOf}
 use Rattle.extension.proofs.Extension.{extent-at, extent-narrow}
 use Rattle.lanes.specs.declared.Bitwise.{Bitwise}
-use Rattle.lanes.specs.Lanes.{opBit, laneWord}
-use Rattle.join.specs.Joined.{operator, joined}
+use Rattle.lanes.specs.Lanes.{opBit}
+use Rattle.join.specs.Joined.{operator, joinedWord, joinedOver, joined}
 use Rattle.lanes.proofs.Places.{direct, whole-word}
 
--- the rule at each place of two operands that are read by their extents, at width w
-abbrev pub joinedOver : Bitwise → ℕ → Extent → Planes → Extent → Planes → List LogicBit
-joinedOver op w a p b q =
-    tabulate w
-    (λ i. opBit op (getD (fromPlanes (a .width) (p .value) (p .unknown)) i (a .beyond)) (getD (fromPlanes (b .width) (q .value) (q .unknown)) i (b .beyond)))
+-- ---- fills settled
 
-module _ (op : Bitwise) (a b : Header) (av au bv bu : List ℕ) (t : Operator) (e : t ≡ operator op) (x y : Extent)
+pub narrow : (t : Operator) (a b : Header) (p : Planes) {x : Extent} → x ≡ extentOf t (vector a p) b → x .width ≤ a .width
+narrow t a b p e = rw e (extent-narrow t (vector a p) b)
+
+module _ (op : Bitwise) (a b : Header) (av au bv bu : List ℕ) {t : Operator} (e : t ≡ operator op) {x y : Extent}
     (hx : x ≡ extentOf t (vector a (lent av au)) b) (hy : y ≡ extentOf t (vector b (lent bv bu)) a) (w : ℕ) (hw : w ≡ max (a .width) (b .width)) where
-  pub left-narrow : x .width ≤ a .width
-  left-narrow = rw hx (extent-narrow t (vector a (lent av au)) b)
-
-  pub right-narrow : y .width ≤ b .width
-  right-narrow = rw hy (extent-narrow t (vector b (lent bv bu)) a)
-
   same-bits : joinedOver op w x (lent av au) y (lent bv bu) ≡ joined op (vector a (lent av au)) (vector b (lent bv bu))
   same-bits =
       ap₂ (λ (x y : Extent). joinedOver op w x (lent av au) y (lent bv bu))
@@ -48,30 +41,35 @@ module _ (op : Bitwise) (a b : Header) (av au bv bu : List ℕ) (t : Operator) (
       (λ (n : ℕ). tabulate n
       (λ i. opBit op (operandAt (operator op) (vector a (lent av au)) b i) (operandAt (operator op) (vector b (lent bv bu)) a i))) hw
 
-  -- the planes of the result, once every word is written
+  pub settled : (p : Planes) → p ≡ planesOf (joinedOver op w x (lent av au) y (lent bv bu))
+      → p ≡ planesOf (joined op (vector a (lent av au)) (vector b (lent bv bu)))
+  settled p h = h ∙ ap planesOf same-bits
+
+-- ---- words of settled operands
+
+module _ (op : Bitwise) (w : ℕ) (x : Extent) (av au : List ℕ) (y : Extent) (bv bu : List ℕ) where
   pub all-written : (k : ℕ) (ov ou : List ℕ) → FilledTo 0 (wordOf valueDigit (at (joinedOver op w x (lent av au) y (lent bv bu)))) (wordCount w) k ov
       → FilledTo 0 (wordOf unknownDigit (at (joinedOver op w x (lent av au) y (lent bv bu)))) (wordCount w) k ou → wordCount w ≤ k
-      → lent ov ou ≡ planesOf (joined op (vector a (lent av au)) (vector b (lent bv bu)))
+      → lent ov ou ≡ planesOf (joinedOver op w x (lent av au) y (lent bv bu))
   all-written k ov ou hv hu l =
       let R = joinedOver op w x (lent av au) y (lent bv bu) in
       let e = ap wordCount (sym (length-tabulate w _)) in
-      ap₂ lent (plane-done valueDigit R _ _ _ hv l e) (plane-done unknownDigit R _ _ _ hu l e) ∙ ap planesOf same-bits
+      ap₂ lent (plane-done valueDigit R _ _ _ hv l e) (plane-done unknownDigit R _ _ _ hu l e)
 
-  direct-word : (i : ℕ) → i < min (x .width) (y .width) / 64
-      → laneWord (opBit op) (wordBy (getD av i 0) (getD au i 0)) (wordBy (getD bv i 0) (getD bu i 0))
-      ≡ wordAt (at (joinedOver op w x (lent av au) y (lent bv bu))) i
-  direct-word i l =
+  direct-word : x .width ≤ w → (i : ℕ) → i < min (x .width) (y .width) / 64
+      → joinedWord op (lent av au) (lent bv bu) i ≡ wordAt (at (joinedOver op w x (lent av au) y (lent bv bu))) i
+  direct-word h i l =
       whole-word (opBit op) (λ i. getD (fromPlanes (x .width) av au) i (x .beyond)) (λ i. getD (fromPlanes (y .width) bv bu) i (y .beyond)) w i
       (wordBy (getD av i 0) (getD au i 0)) (wordBy (getD bv i 0) (getD bu i 0))
       (direct (x .width) av au (x .beyond) i (omega arith))
       (direct (y .width) bv bu (y .beyond) i (omega arith))
-      (omega (arith, left-narrow))
+      (omega arith)
 
-  module _ (N M n : ℕ) (out : List ℕ) (long : length out ≡ M) (hn : n ≡ min (x .width) (y .width) / 64) where
-    pub value-written : FilledTo 0 (λ k. laneWord (opBit op) (wordBy (getD av k 0) (getD au k 0)) (wordBy (getD bv k 0) (getD bu k 0)) .value) N n out
+  module _ (h : x .width ≤ w) (N M n : ℕ) (out : List ℕ) (long : length out ≡ M) (hn : n ≡ min (x .width) (y .width) / 64) where
+    pub value-written : FilledTo 0 (λ k. joinedWord op (lent av au) (lent bv bu) k .value) N n out
         → FilledTo 0 (wordOf valueDigit (at (joinedOver op w x (lent av au) y (lent bv bu)))) M n out
-    value-written h = record { long = long; upto = λ i l. h .upto i l ∙ ap (λ (z : Word). z .value) (direct-word i (rw hn at l)) }
+    value-written g = record { long = long; upto = λ i l. g .upto i l ∙ ap (λ (z : Word). z .value) (direct-word h i (rw hn at l)) }
 
-    pub unknown-written : FilledTo 0 (λ k. laneWord (opBit op) (wordBy (getD av k 0) (getD au k 0)) (wordBy (getD bv k 0) (getD bu k 0)) .unknown) N n out
+    pub unknown-written : FilledTo 0 (λ k. joinedWord op (lent av au) (lent bv bu) k .unknown) N n out
         → FilledTo 0 (wordOf unknownDigit (at (joinedOver op w x (lent av au) y (lent bv bu)))) M n out
-    unknown-written h = record { long = long; upto = λ i l. h .upto i l ∙ ap (λ (z : Word). z .unknown) (direct-word i (rw hn at l)) }
+    unknown-written g = record { long = long; upto = λ i l. g .upto i l ∙ ap (λ (z : Word). z .unknown) (direct-word h i (rw hn at l)) }

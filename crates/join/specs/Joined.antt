@@ -1,14 +1,18 @@
 -- Two vectors joined place by place, and not of one: document 01, "Result vector" (IEEE 1800-2017, 11.4.8 and 11.4.11).
 use mathlib.Core.List.{List}
-use lib.ListN.{length}
+use Prim.Native.Nat.{ℕ}
+use lib.ListN.{length, getD}
 use Rattle.bit.specs.declared.LogicBit.{LogicBit}
 use Rattle.bit.specs.Rules.{notBit}
+use Rattle.words.specs.declared.Word.{Word}
 use Rattle.words.specs.Vector.{tabulate, at}
+use Rattle.words.specs.Planes.{Planes, vectorOf, wordBy}
 use Rattle.value.specs.Checks.{Vector}
+use Rattle.extension.specs.declared.Extent.{Extent}
 use Rattle.extension.specs.declared.Operator.{Operator}
 use Rattle.extension.specs.declared.Operator.the-variants as operator-of
 use Rattle.extension.specs.Extension.{largerWidth, operandAt}
-use Rattle.lanes.specs.Lanes.{opBit}
+use Rattle.lanes.specs.Lanes.{opBit, laneWord}
 use Rattle.lanes.specs.declared.Bitwise.{Bitwise}
 use Rattle.lanes.specs.declared.Bitwise.the-variants.{And, Or, Xor, Merge}
 
@@ -18,6 +22,17 @@ operator And = operator-of.And
 operator Or = operator-of.Or
 operator Xor = operator-of.Xor
 operator Merge = operator-of.Merge
+
+-- word k of two pairs of planes, joined at each of its 64 places (document 01, "Planes")
+abbrev pub joinedWord : Bitwise → Planes → Planes → ℕ → Word
+joinedWord op p q k =
+    laneWord (opBit op) (wordBy (getD (p .value) k 0) (getD (p .unknown) k 0)) (wordBy (getD (q .value) k 0) (getD (q .unknown) k 0))
+
+-- the rule at each place of two settled operands, at width w: the bits of each are those of its planes below its extent's width, and the
+-- extent's bit at each place from there on (document 01, "Result vector": a fill is first stretched, the shorter operand extended)
+abbrev pub joinedOver : Bitwise → ℕ → Extent → Planes → Extent → Planes → List LogicBit
+joinedOver op w a p b q =
+    tabulate w (λ i. opBit op (getD (vectorOf (a .width) p) i (a .beyond)) (getD (vectorOf (b .width) q) i (b .beyond)))
 
 -- the rule at each place of the larger width
 abbrev pub joined : Bitwise → Vector → Vector → List LogicBit

@@ -1,6 +1,8 @@
-// The work behind the operators: words joined by lanes, straight from the planes where both operands have whole words, and through the
-// reader of extended operands behind those. These ask their caller for accepted operands.
+// The work behind the operators: fills are settled first, then words joined by lanes, straight from the planes where both operands have
+// whole words, and through the reader of extended operands behind those. These ask their caller for accepted operands.
+use extension::Extent;
 use extension::Operator;
+use extension::inner::extent;
 use lanes::Bitwise;
 use lanes::lanes;
 use value::Header;
@@ -11,13 +13,12 @@ use words::inner::ones;
 use words::inner::operand_word;
 ghost use mathlib.Core.Path.{_≡_};
 ghost use Prim.Native.Nat.{_≤_, max};
-ghost use lib.ListN.{length, getD};
+ghost use lib.ListN.{length};
 ghost use Rattle.words.specs.Vector.{FilledTo};
-ghost use Rattle.words.specs.Planes.{wordCount, fromPlanes, lent, planesOf, Plane, wordBy};
+ghost use Rattle.words.specs.Planes.{wordCount, fromPlanes, lent, planesOf, Plane};
 ghost use Rattle.value.specs.Checks.{vector};
-ghost use Rattle.lanes.specs.Lanes.{opBit, laneWord};
 ghost use Rattle.join.specs.Joined as joined;
-ghost use Rattle.join.specs.Joined.{joined, inverted};
+ghost use Rattle.join.specs.Joined.{joinedWord, joinedOver, joined, inverted};
 
 // One operator on the first n words.
 fn join_words(
@@ -33,8 +34,12 @@ fn join_words(
     requires { ⌜ (n ≤ length (now av)) × (n ≤ length (now au)) ⌝ }
     requires { ⌜ (n ≤ length (now bv)) × (n ≤ length (now bu)) ⌝ }
     requires { ⌜ (n ≤ length (now ov)) × (n ≤ length (now ou)) ⌝ }
-    ensures { λ _. ⌜ FilledTo 0 (λ k. laneWord (opBit op) (wordBy (getD (now (av .entry)) k 0) (getD (now (au .entry)) k 0)) (wordBy (getD (now (bv .entry)) k 0) (getD (now (bu .entry)) k 0)) .value) (length (now (ov .entry))) n (now (ov .exit)) ⌝ }
-    ensures { λ _. ⌜ FilledTo 0 (λ k. laneWord (opBit op) (wordBy (getD (now (av .entry)) k 0) (getD (now (au .entry)) k 0)) (wordBy (getD (now (bv .entry)) k 0) (getD (now (bu .entry)) k 0)) .unknown) (length (now (ou .entry))) n (now (ou .exit)) ⌝ }
+    ensures { λ _. ⌜ FilledTo 0
+        (λ k. joinedWord op (lent (now (av .entry)) (now (au .entry))) (lent (now (bv .entry)) (now (bu .entry))) k .value)
+        (length (now (ov .entry))) n (now (ov .exit)) ⌝ }
+    ensures { λ _. ⌜ FilledTo 0
+        (λ k. joinedWord op (lent (now (av .entry)) (now (au .entry))) (lent (now (bv .entry)) (now (bu .entry))) k .unknown)
+        (length (now (ou .entry))) n (now (ou .exit)) ⌝ }
 {
     let mut k = 0;
     while k < n {
@@ -67,8 +72,12 @@ fn join_whole(
     requires { ⌜ (n ≤ length (now av)) × (n ≤ length (now au)) ⌝ }
     requires { ⌜ (n ≤ length (now bv)) × (n ≤ length (now bu)) ⌝ }
     requires { ⌜ (n ≤ length (now ov)) × (n ≤ length (now ou)) ⌝ }
-    ensures { λ _. ⌜ FilledTo 0 (λ k. laneWord (opBit op) (wordBy (getD (now (av .entry)) k 0) (getD (now (au .entry)) k 0)) (wordBy (getD (now (bv .entry)) k 0) (getD (now (bu .entry)) k 0)) .value) (length (now (ov .entry))) n (now (ov .exit)) ⌝ }
-    ensures { λ _. ⌜ FilledTo 0 (λ k. laneWord (opBit op) (wordBy (getD (now (av .entry)) k 0) (getD (now (au .entry)) k 0)) (wordBy (getD (now (bv .entry)) k 0) (getD (now (bu .entry)) k 0)) .unknown) (length (now (ou .entry))) n (now (ou .exit)) ⌝ }
+    ensures { λ _. ⌜ FilledTo 0
+        (λ k. joinedWord op (lent (now (av .entry)) (now (au .entry))) (lent (now (bv .entry)) (now (bu .entry))) k .value)
+        (length (now (ov .entry))) n (now (ov .exit)) ⌝ }
+    ensures { λ _. ⌜ FilledTo 0
+        (λ k. joinedWord op (lent (now (av .entry)) (now (au .entry))) (lent (now (bv .entry)) (now (bu .entry))) k .unknown)
+        (length (now (ou .entry))) n (now (ou .exit)) ⌝ }
 {
     match op {
         Bitwise::And => join_words(Bitwise::And, av, au, bv, bu, ov, ou, n),
@@ -90,7 +99,43 @@ fn operator(op: Bitwise) -> Operator
     }
 }
 
-// The operator on two accepted operands.
+// The operator on two settled operands, at a width that neither passes. The bits of each are those of its planes below its extent's width,
+// and the extent's bit at each place from there on.
+fn join_extents(
+    op: Bitwise,
+    x: Extent,
+    av: &[u64],
+    au: &[u64],
+    y: Extent,
+    bv: &[u64],
+    bu: &[u64],
+    width: u32,
+    ov: &mut [u64],
+    ou: &mut [u64],
+)
+    requires { ⌜ (wordCount (x .width) ≤ length (now av)) × (wordCount (x .width) ≤ length (now au)) ⌝ }
+    requires { ⌜ (wordCount (y .width) ≤ length (now bv)) × (wordCount (y .width) ≤ length (now bu)) ⌝ }
+    requires { ⌜ (x .width ≤ width) × (y .width ≤ width) ⌝ }
+    requires { ⌜ (length (now ov) ≡ wordCount width) × (length (now ou) ≡ wordCount width) ⌝ }
+    ensures { λ _. ⌜ lent (now (ov .exit)) (now (ou .exit))
+        ≡ planesOf (joinedOver op width x (lent (now (av .entry)) (now (au .entry))) y (lent (now (bv .entry)) (now (bu .entry)))) ⌝ }
+{
+    let xb = x.beyond;
+    let yb = y.beyond;
+    let mut k = least(x.width as usize, y.width as usize) / 64;
+    join_whole(op, av, au, bv, bu, ov, ou, k);
+    while k < ov.len() {
+        let p = operand_word(av, au, x.width, k, xb);
+        let q = operand_word(bv, bu, y.width, k, yb);
+        let r = lanes(op, p, q);
+        let m = ones(kept(width, k));
+        ov[k] = r.value & m;
+        ou[k] = r.unknown & m;
+        k += 1;
+    }
+}
+
+// The operator on two accepted operands: settles their fills, as each is read beside the other, and joins what it then has.
 pub fn join_planes(
     op: Bitwise,
     a: Header,
@@ -107,31 +152,22 @@ pub fn join_planes(
     requires { ⌜ Plane (b .width) (now bv) × Plane (b .width) (now bu) ⌝ }
     requires { ⌜ width ≡ max (a .width) (b .width) ⌝ }
     requires { ⌜ (length (now ov) ≡ wordCount width) × (length (now ou) ≡ wordCount width) ⌝ }
-    ensures { λ _. ⌜ lent (now (ov .exit)) (now (ou .exit)) ≡ planesOf (joined op (vector a (lent (now (av .entry)) (now (au .entry)))) (vector b (lent (now (bv .entry)) (now (bu .entry))))) ⌝ }
+    ensures { λ _. ⌜ lent (now (ov .exit)) (now (ou .exit))
+        ≡ planesOf
+        (joined op (vector a (lent (now (av .entry)) (now (au .entry)))) (vector b (lent (now (bv .entry)) (now (bu .entry))))) ⌝ }
 {
     let t = operator(op);
-    let x = extension::inner::extent(t, a, av, au, b);
-    let y = extension::inner::extent(t, b, bv, bu, a);
-    let xb = x.beyond;
-    let yb = y.beyond;
-    let mut k = least(x.width as usize, y.width as usize) / 64;
-    join_whole(op, av, au, bv, bu, ov, ou, k);
-    while k < ov.len() {
-        let p = operand_word(av, au, x.width, k, xb);
-        let q = operand_word(bv, bu, y.width, k, yb);
-        let r = lanes(op, p, q);
-        let m = ones(kept(width, k));
-        ov[k] = r.value & m;
-        ou[k] = r.unknown & m;
-        k += 1;
-    }
+    let x = extent(t, a, av, au, b);
+    let y = extent(t, b, bv, bu, a);
+    join_extents(op, x, av, au, y, bv, bu, width, ov, ou)
 }
 
 // Not of a vector: every word, and the last one cut off at the width.
 pub fn not_planes(width: u32, av: &[u64], au: &[u64], ov: &mut [u64], ou: &mut [u64])
     requires { ⌜ Plane width (now av) × Plane width (now au) ⌝ }
     requires { ⌜ (length (now ov) ≡ wordCount width) × (length (now ou) ≡ wordCount width) ⌝ }
-    ensures { λ _. ⌜ lent (now (ov .exit)) (now (ou .exit)) ≡ planesOf (inverted (fromPlanes width (now (av .entry)) (now (au .entry)))) ⌝ }
+    ensures { λ _. ⌜ lent (now (ov .exit)) (now (ou .exit))
+        ≡ planesOf (inverted (fromPlanes width (now (av .entry)) (now (au .entry)))) ⌝ }
 {
     let mut k = 0;
     while k < ov.len() {

@@ -1,29 +1,23 @@
 -- `join::inner::join_words`: the words below k are the lanes of the operands' words.
 use Rattle.lanes.proofs.Places.{fewer}
 use mathlib.Core.Path.{refl, ap}
-use mathlib.Core.List.{List}
-use Prim.Native.Nat.{ℕ, _≤_, _-_}
+use Prim.Native.Nat.{_≤_, _-_}
 use native.Mathlib.Omega.{arith}
-use lib.ListN.{length, getD}
+use lib.ListN.{length}
 use Rattle.words.specs.declared.Word.{Word}
-use Rattle.words.specs.Planes.{wordBy}
+use Rattle.words.specs.Planes.{lent}
 use Rattle.words.specs.Vector.{FilledTo}
 use Rattle.words.proofs.Fill.{start, more}
-use Rattle.lanes.specs.declared.Bitwise.{Bitwise}
-use Rattle.lanes.specs.Lanes.{opBit, laneWord}
+use Rattle.join.specs.Joined.{joinedWord}
 use borrow.Author.Needs.{needs}
 use Rattle.join.proofs.inner.join_words.Statement.{statement}
 use Rattle.join.proofs.inner.join_words.Tie as tie
 
--- word k of the result
-abbrev joins : Bitwise → List ℕ → List ℕ → List ℕ → List ℕ → ℕ → Word
-joins op av au bv bu k = laneWord (opBit op) (wordBy (getD av k 0) (getD au k 0)) (wordBy (getD bv k 0) (getD bu k 0))
-
 abbrev Inv-loop : tie.InvT-loop
 Inv-loop op av au bv bu ov₀ ou₀ n k₀ ov ou k =
     (k ≤ n)
-    × FilledTo 0 (λ i. joins op av au bv bu i .value) (length ov₀) k ov
-    × FilledTo 0 (λ i. joins op av au bv bu i .unknown) (length ou₀) k ou
+    × FilledTo 0 (λ i. joinedWord op (lent av au) (lent bv bu) i .value) (length ov₀) k ov
+    × FilledTo 0 (λ i. joinedWord op (lent av au) (lent bv bu) i .unknown) (length ou₀) k ou
 
 abbrev μ-loop : tie.MeasureT-loop
 μ-loop op av au bv bu ov₀ ou₀ n k₀ ov ou k = n - k
