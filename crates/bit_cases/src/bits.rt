@@ -78,7 +78,7 @@ fn writes(call: usize, line: &[u8], h: Header, value: &mut [u64], unknown: &mut 
     let n = number(line, 6) as usize;
     let r = write(call, h, value, unknown, number(line, 4) as usize, f.word, n);
     let left = are_left(line, 3, value, unknown);
-    answers(plain(line, 0), r.refusal, r.bit as u64 == number(line, 7)) && left.same
+    answers(plain(line, 0), r.refusal, r.bit as u64 == number(line, 7)) && left
 }
 
 // Whether the call of a line has the line's answer.

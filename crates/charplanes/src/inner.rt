@@ -9,7 +9,7 @@ ghost use Rattle.words.specs.Planes.{wordCount, packed, lent, planesOf};
 ghost use Rattle.text.specs.Answers.{bitsIn};
 
 // The word whose lowest bits are the n characters from a place on: 1 and z store a 1 in the value plane, x and z in the unknown plane.
-fn read_word(s: &[u8], from: usize, n: usize) -> Word
+pub fn read_word(s: &[u8], from: usize, n: usize) -> Word
     requires { ⌜ (n ≤ 64) × (n ≤ length (now s) - from) ⌝ }
     ensures { λ r. ⌜ r ≡ packed (at (bitsIn (now (s .entry)) from n)) ⌝ }
 {

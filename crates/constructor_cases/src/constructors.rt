@@ -30,7 +30,7 @@ fn make(
 fn makes(call: usize, line: &[u8], width: u32, value: &mut [u64], unknown: &mut [u64]) -> bool {
     let r = make(call, line, width, value, unknown);
     let left = are_left(line, 3, value, unknown);
-    is_vector(plain(line, 0), r) && left.same
+    is_vector(plain(line, 0), r) && left
 }
 
 // Whether the call of a line has the line's answer.

@@ -1,6 +1,6 @@
 // Reads tables of calls with their answers, for programs that work the calls and compare.
 //
-// A line is `ANSWER = NAME OPERAND..`, with one space between. A vector is
+// A line is `ANSWER = NAME OPERAND..`, with one space between; ANSWER is field 0, NAME field 2, and the operands follow. A vector is
 //
 //     BITS             the bits, highest first, in planes of their word count
 //     WIDTH:A:B:BITS   a width, and planes of A words and B words that start with the bits; the bits may reach above the width
@@ -20,5 +20,10 @@
 // OUT is what the planes lent for a result hold before the call. A call that writes and answers no vector is answered by the bits that it
 // leaves, where leading zeros may be left out; CHANGED is 1 or 0. Where a call is refused, the answer is `!` and the number of the refusal,
 // and the planes lent for writing hold what they held.
+//
+// Every text is read, whatever it holds. A field or a part that is not there is empty. A character's digit is its lowest four bits; a number is
+// taken modulo 2^64, a width modulo 2^32, and an empty number is 0. A character that is none of 0 1 x z is the bit 0. A field with an `r` in it is
+// taken for a real, which has no planes, and one with a `!` in it for a refusal. A name that is none, and a call whose first operand asks for more
+// than 16,385 words or another for more than 65, has the number 26 of no call.
 pub mod inner;
-mod text;
+mod parse;

@@ -36,7 +36,7 @@ fn result(
 // Whether a call gave the line's answer and left the planes as that says.
 fn is_answer(line: &[u8], k: usize, r: HeaderResult, value: &[u64], unknown: &[u64]) -> bool {
     let left = are_left(line, k, value, unknown);
-    is_vector(plain(line, 0), r) && left.same
+    is_vector(plain(line, 0), r) && left
 }
 
 // The operators whose operands are lent; the last field is what the planes lent for the result hold before the call.

@@ -1,22 +1,65 @@
--- `replay::inner::are_left`: the words are those that the field was read as.
+-- By the field that tells it, and the first comparison.
+use mathlib.Core.Path.{sym, _∙_}
+use borrow.Author.Tests.{not-true, not-false}
+use Rattle.words.specs.Planes.{lent}
+use Rattle.replay.proofs.Readings.{compared}
 use borrow.Author.Needs.{needs}
 use Rattle.replay.proofs.inner.are_left.Statement.{statement}
 use Rattle.replay.proofs.inner.are_left.Tie as tie
 
-plain-requires : tie.Need-plain-requires
-plain-requires c κs = search needs
+left-at-requires : tie.Need-left-at-requires
+left-at-requires c κs = search needs
 
-slice-aggregate-hold-field : tie.Need-slice-aggregate-hold-field
-slice-aggregate-hold-field c = search needs
+slice-aggregate-field : tie.Need-slice-aggregate-field
+slice-aggregate-field c = search needs
 
-slice-aggregate-hold-field-2 : tie.Need-slice-aggregate-hold-field-2
-slice-aggregate-hold-field-2 c = search needs
+slice-aggregate-field-2 : tie.Need-slice-aggregate-field-2
+slice-aggregate-field-2 c = search needs
 
-hold-field-requires : tie.Need-hold-field-requires
-hold-field-requires c κs = search needs
+field-requires : tie.Need-field-requires
+field-requires c κs = search needs
+
+slice-aggregate-holds : tie.Need-slice-aggregate-holds
+slice-aggregate-holds c = search needs
+
+holds-requires : tie.Need-holds-requires
+holds-requires c κs = search needs
 
 returns : tie.Need-returns
-returns c = c .before .before .hold-field .ensures
+returns c =
+    let h = c .before in
+    let d = h .before .before .before .before in
+    let k = d .before .before .before in
+    let a = k .before .before .before .before .args in
+    let q = compared (a .out) (a .line .now) (lent (a .value .now) (a .unknown .now)) _ _ _ _ (k .left-at .ensures) (d .field .ensures .0) in
+    sym (q ∙ rw (sym (h .holds .ensures) ∙ not-true _ (c .if1 .taken)))
+
+slice-aggregate-holds-2 : tie.Need-slice-aggregate-holds-2
+slice-aggregate-holds-2 c = search needs
+
+holds-requires-2 : tie.Need-holds-requires-2
+holds-requires-2 c κs = search needs
+
+returns-2 : tie.Need-returns-2
+returns-2 c =
+    let h = c .before .before .before in
+    let d = h .before .before .before .before in
+    let k = d .before .before .before in
+    let a = k .before .before .before .before .args in
+    let q = compared (a .out) (a .line .now) (lent (a .value .now) (a .unknown .now)) _ _ _ _ (k .left-at .ensures) (d .field .ensures .0) in
+    sym (q ∙ rw (sym (h .holds .ensures) ∙ not-false _ (c .before .before .if1 .left)) (sym (c .holds2 .ensures)))
 
 pub are-left-spec : {M : Type 1} → statement M
-are-left-spec = tie.close (tie.spec plain-requires slice-aggregate-hold-field slice-aggregate-hold-field-2 hold-field-requires returns)
+are-left-spec =
+    tie.close
+    (tie.spec
+    left-at-requires
+    slice-aggregate-field
+    slice-aggregate-field-2
+    field-requires
+    slice-aggregate-holds
+    holds-requires
+    returns
+    slice-aggregate-holds-2
+    holds-requires-2
+    returns-2)

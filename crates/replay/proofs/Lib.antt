@@ -1,0 +1,4 @@
+mod Texts
+mod Words
+mod Names
+mod Readings
