@@ -3,23 +3,25 @@
 --     one-apart, one-unsure       nor do two ones
 --     over-extents                the places over the extents are those of the definition
 --     narrow                      an extent is no wider than the operand
---     apart, alike                the answer where a mismatch is found, and where the scan ends without one
+--     answer-found                what a scan finds gives the answer
+--     found-at, found-none        what is found where a place mismatches and none below it does; where the scan ends without a mismatch
 --     equal-and                   equality is the and-reduction of the places, each by whether its bits are the same
 use mathlib.Core.Path.{_≡_, refl, sym, ap, ap₂, _∙_}
 use mathlib.Core.Bool.{Bool, true, false, not, _||_, cond}
-use mathlib.Core.List.{List}
-use Prim.Native.Nat.{ℕ, _*_, _≤_, max}
+use mathlib.Core.List.{List, [], _∷_}
+use Prim.Native.Nat.{ℕ, zero, suc, _*_, _≤_, max}
+use native.Mathlib.Omega.{arith}
 use lib.Dec.{eqb}
 use lib.ListN.{length, getD}
 use Rattle.bit.specs.declared.LogicBit.{LogicBit}
 use Rattle.bit.specs.declared.LogicBit.the-variants.{Zero, One, X, Z}
 use Rattle.bit.specs.Rules.{same, notBit, xorBit}
 use Rattle.words.specs.Vector.{tabulate}
-use Rattle.words.specs.Planes.{Planes, lent, fromPlanes}
+use Rattle.words.specs.Planes.{lent}
 use Rattle.value.specs.declared.Header.{Header}
 use Rattle.value.specs.Checks.{Vector, vector}
 use Rattle.fold.specs.Fold.{anyOf, isUnknown, reduceAnd}
-use Rattle.fold.proofs.Scanned.{Scanned}
+use Rattle.fold.proofs.Scanned.{gather, some, Scanned}
 use Rattle.fold.proofs.Gather.{gather-cong}
 use Rattle.fold.proofs.Places.{any-tabulate}
 use Rattle.fold.proofs.Scan.{none-left, open-told}
@@ -29,17 +31,12 @@ use Rattle.extension.specs.Extension.{largerWidth, operandAt, extentOf}
 use Rattle.extension.proofs.Extension.{extent-at, extent-narrow}
 use Rattle.scan.specs.declared.Comparison.{Comparison}
 use Rattle.scan.specs.declared.Comparison.the-variants.{Equal, CaseEqual, CasezEqual, CasexEqual, WildcardEqual}
-use Rattle.scan.specs.Compared.{operator, mismatch, unsure, onPair, decided, places, compared}
+use Rattle.scan.specs.declared.Found.the-variants.{Mismatch, Unsure, Same}
+use Rattle.scan.specs.Compared.{operator, mismatch, unsure, onPair, decided, places, compared, lowest, found, answerBit, placesOver}
 
 -- what stands at each place beyond the width
 abbrev pub zeros : LogicBit × LogicBit
 zeros = (Zero, Zero)
-
--- the places over two operands that are read by their extents, at width w
-abbrev pub placesOver : ℕ → Extent → Planes → Extent → Planes → List (LogicBit × LogicBit)
-placesOver w a p b q =
-    tabulate w
-    (λ i. (getD (fromPlanes (a .width) (p .value) (p .unknown)) i (a .beyond), getD (fromPlanes (b .width) (q .value) (q .unknown)) i (b .beyond)))
 
 pub zero-apart : (op : Comparison) → mismatch op Zero Zero ≡ false
 zero-apart Equal = refl
@@ -84,7 +81,34 @@ over-extents op a b av au bv bu t e x y hx hy w hw =
 pub narrow : (t : Operator) (a b : Header) (v u : List ℕ) (x : Extent) → x ≡ extentOf t (vector a (lent v u)) b → x .width ≤ a .width
 narrow t a b v u x e = rw e (extent-narrow t (vector a (lent v u)) b)
 
--- ---- the answer of a scan
+-- ---- what a scan finds
+
+pub answer-found : (op : Comparison) (ps : List (LogicBit × LogicBit)) → answerBit (found op ps) ≡ decided op ps
+answer-found op ps = go (anyOf (onPair (mismatch op)) ps) (anyOf (onPair (unsure op)) ps)
+  where
+    go : (m d : Bool) → answerBit (cond m (Mismatch (lowest (onPair (mismatch op)) ps)) (cond d Unsure Same)) ≡ cond m Zero (cond d X One)
+    go true d = refl
+    go false true = refl
+    go false false = refl
+
+neither : (a b : Bool) → (a || b) ≡ false → (a ≡ false) × (b ≡ false)
+neither true b h = let z : _≡_ {A = ℕ} 0 1 = cc in absurd (omega arith)
+neither false b h = (refl, h)
+
+module _ {A : Type 0} (p : A → Bool) (e : A) (fails : p e ≡ false) where
+  -- a member that passes, with none before it, is the lowest
+  lowest-at : (bs : List A) (i : ℕ) → some i (λ i. p (getD bs i e)) ≡ false → p (getD bs i e) ≡ true → (anyOf p bs ≡ true) × (lowest p bs ≡ i)
+  unfolding gather
+  lowest-at [] i h t = let z : _≡_ {A = ℕ} 0 1 = cc in absurd (omega arith)
+  lowest-at (b ∷ bs) zero h t = (ap (λ (z : Bool). z || anyOf p bs) t, ap (λ (z : Bool). cond z 0 (suc (lowest p bs))) t)
+  lowest-at (b ∷ bs) (suc i) h t =
+      let q = neither (p b) (some i (λ i. p (getD bs i e))) h in
+      let r = lowest-at bs i (q .1) t in
+      (ap₂ _||_ (q .0) (r .0), ap₂ (λ (z : Bool) (n : ℕ). cond z 0 (suc n)) (q .0) (r .1))
+
+turned : {A : Type 0} (x y : A) (z : Bool) → cond (not z) x y ≡ cond z y x
+turned x y true = refl
+turned x y false = refl
 
 -- 0 on a mismatch, else x where a place is unsure, else 1
 abbrev pub answered : Bool → ℕ → LogicBit
@@ -94,21 +118,22 @@ module _ (op : Comparison) (ps : List (LogicBit × LogicBit)) where
   abbrev pub Compared : ℕ → ℕ → Type 0
   Compared = Scanned (onPair (mismatch op)) (onPair (unsure op)) zeros zeros ps
 
-  pub by-tests : (m : Bool) (d : ℕ) → anyOf (onPair (mismatch op)) ps ≡ m → anyOf (onPair (unsure op)) ps ≡ not (eqb d 0) → answered m d ≡ decided op ps
-  by-tests m d hm hd = sym (ap₂ (λ (x y : Bool). cond x Zero (cond y X One)) hm hd ∙ ap (λ (x : LogicBit). cond m Zero x) (turned (eqb d 0)))
-    where
-      turned : (z : Bool) → cond (not z) X One ≡ cond z One X
-      turned true = refl
-      turned false = refl
+  pub by-tests : (m : Bool) (d : ℕ) → anyOf (onPair (mismatch op)) ps ≡ m → anyOf (onPair (unsure op)) ps ≡ not (eqb d 0)
+      → answered m d ≡ decided op ps
+  by-tests m d hm hd = sym (ap₂ (λ (x y : Bool). cond x Zero (cond y X One)) hm hd ∙ ap (λ (x : LogicBit). cond m Zero x) (turned X One (eqb d 0)))
 
-  pub apart : (d : ℕ) → anyOf (onPair (mismatch op)) ps ≡ true → answered true d ≡ decided op ps
-  apart d h = sym (ap (λ (x : Bool). cond x Zero (cond (anyOf (onPair (unsure op)) ps) X One)) h)
+  pub found-at : (i : ℕ) → some i (λ i. onPair (mismatch op) (getD ps i zeros)) ≡ false → onPair (mismatch op) (getD ps i zeros) ≡ true
+      → Mismatch i ≡ found op ps
+  found-at i h t =
+      let r = lowest-at (onPair (mismatch op)) zeros (zero-apart op) ps i h t in
+      sym (ap₂ (λ (m : Bool) (n : ℕ). cond m (Mismatch n) (cond (anyOf (onPair (unsure op)) ps) Unsure Same)) (r .0) (r .1))
 
-  pub alike : (d k : ℕ) → Compared d k → length ps ≤ k * 64 → answered false d ≡ decided op ps
-  alike d k s l =
-      by-tests false d
+  pub found-none : (d k : ℕ) → Compared d k → length ps ≤ k * 64 → cond (eqb d 0) Same Unsure ≡ found op ps
+  found-none d k s l =
+      sym (ap₂ (λ (m z : Bool). cond m (Mismatch (lowest (onPair (mismatch op)) ps)) (cond z Unsure Same))
       (none-left (onPair (mismatch op)) (onPair (unsure op)) zeros zeros ps (zero-apart op) d k s l)
       (open-told (onPair (mismatch op)) (onPair (unsure op)) zeros zeros ps (zero-apart op) d k s (zero-unsure op) l)
+      ∙ turned Unsure Same (eqb d 0))
 
 -- ---- equality as a reduction
 

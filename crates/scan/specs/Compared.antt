@@ -1,22 +1,25 @@
 -- Document 01, "Answer bit": equality (IEEE 1800-2017, 11.4.5), case, casez and casex equality (12.5), wildcard equality (11.4.6).
 use mathlib.Core.Bool.{Bool, false, not, _&&_, _||_, cond}
-use mathlib.Core.List.{List}
-use Prim.Native.Nat.{ℕ, _-_, _*_, _^_, min}
+use mathlib.Core.List.{List, [], _∷_}
+use Prim.Native.Nat.{ℕ, suc, _-_, _*_, _^_, _≤_, min}
 use lib.Bits.{bitAnd, bitOr, bitXor}
-use lib.ListN.{getD}
+use lib.ListN.{length, getD}
 use Rattle.bit.specs.declared.LogicBit.{LogicBit}
 use Rattle.bit.specs.declared.LogicBit.the-variants.{Zero, One, X, Z}
 use Rattle.bit.specs.Rules.{same, known}
 use Rattle.words.specs.declared.Word.{Word}
 use Rattle.words.specs.Vector.{tabulate, pack}
-use Rattle.words.specs.Planes.{bitOf}
+use Rattle.words.specs.Planes.{Planes, wordCount, bitOf, vectorOf}
 use Rattle.value.specs.Checks.{Vector}
 use Rattle.fold.specs.Fold.{anyOf}
+use Rattle.extension.specs.declared.Extent.{Extent}
 use Rattle.extension.specs.declared.Operator.{Operator}
 use Rattle.extension.specs.declared.Operator.the-variants as operator-of
 use Rattle.extension.specs.Extension.{largerWidth, operandAt}
 use Rattle.scan.specs.declared.Comparison.{Comparison}
 use Rattle.scan.specs.declared.Comparison.the-variants.{Equal, CaseEqual, CasezEqual, CasexEqual, WildcardEqual}
+use Rattle.scan.specs.declared.Found.{Found}
+use Rattle.scan.specs.declared.Found.the-variants.{Mismatch, Unsure, Same}
 use Rattle.scan.specs.declared.inner.Marks.{Marks}
 
 -- the row of the tables by which the operands are read
@@ -69,6 +72,38 @@ places op a b =
 
 abbrev pub compared : Comparison → Vector → Vector → LogicBit
 compared op a b = decided op (places op a b)
+
+-- ---- what a scan finds: document 01, "Answer bit", and "Which places take which form" (the scan is left at the first known mismatch)
+
+module _ {A : Type 0} where
+  -- the lowest place of a list whose member passes the test; the list's length where none does
+  abbrev pub lowest : (A → Bool) → List A → ℕ
+  lowest p [] = 0
+  lowest p (b ∷ bs) = cond (p b) 0 (suc (lowest p bs))
+
+-- the lowest place that mismatches; where none does, whether some place is unsure
+abbrev pub found : Comparison → List (LogicBit × LogicBit) → Found
+found op ps =
+    cond (anyOf (onPair (mismatch op)) ps) (Mismatch (lowest (onPair (mismatch op)) ps))
+    (cond (anyOf (onPair (unsure op)) ps) Unsure Same)
+
+-- the answer bit: 0 on a mismatch, x where the answer is open, else 1
+abbrev pub answerBit : Found → LogicBit
+answerBit (Mismatch i) = Zero
+answerBit Unsure = X
+answerBit Same = One
+
+-- the planes hold every word of the extent's width
+abbrev pub covers : Extent → Planes → Type 0
+covers a p = (wordCount (a .width) ≤ length (p .value)) × (wordCount (a .width) ≤ length (p .unknown))
+
+-- place i of an operand that is read by its extent
+abbrev pub placeOf : Extent → Planes → ℕ → LogicBit
+placeOf a p i = getD (vectorOf (a .width) p) i (a .beyond)
+
+-- the two bits at each place below w of two operands that are read by their extents
+abbrev pub placesOver : ℕ → Extent → Planes → Extent → Planes → List (LogicBit × LogicBit)
+placesOver w a p b q = tabulate w (λ i. (placeOf a p i, placeOf b q i))
 
 -- ---- what the inner functions give
 

@@ -1,6 +1,7 @@
 // One scan of words for all comparisons, straight from the planes while both operands have whole words, and
 // through the reader of extended operands from there. These ask their caller for operands that were checked.
 use crate::Comparison;
+use crate::Found;
 use bit::LogicBit;
 use extension::Extent;
 use extension::Operator;
@@ -12,11 +13,11 @@ use words::inner::ones;
 use words::inner::operand_word;
 ghost use mathlib.Core.Path.{_≡_};
 ghost use Prim.Native.Nat.{ℕ, _*_, _≤_, _<_};
-ghost use lib.ListN.{length, getD};
-ghost use Rattle.words.specs.Planes.{wordCount, fromPlanes, wordAt, lent, Plane};
+ghost use lib.ListN.{length};
+ghost use Rattle.words.specs.Planes.{wordAt, lent, Plane};
 ghost use Rattle.value.specs.Checks.{vector};
 ghost use Rattle.scan.specs.Compared as compared;
-ghost use Rattle.scan.specs.Compared.{decided, compared, wordPlaces, marksOf, cutMarks, unlike};
+ghost use Rattle.scan.specs.Compared.{decided, found, compared, covers, placeOf, placesOver, wordPlaces, marksOf, cutMarks, unlike};
 
 // The 64 places of a word of each operand: a one where they mismatch, and a one where an unknown bit leaves the answer in doubt.
 struct Marks {
@@ -91,7 +92,8 @@ pub fn compare_words(op: Comparison, a: Word, b: Word, width: u32) -> LogicBit
 fn pass_same(av: &[u64], au: &[u64], bv: &[u64], bu: &[u64], n: usize) -> usize
     requires { ⌜ (n ≤ length (now av)) × (n ≤ length (now au)) ⌝ }
     requires { ⌜ (n ≤ length (now bv)) × (n ≤ length (now bu)) ⌝ }
-    ensures { λ r. ⌜ (r ≤ n) × ((i : ℕ) → i < r → unlike (now (av .entry)) (now (au .entry)) (now (bv .entry)) (now (bu .entry)) i ≡ 0) ⌝ }
+    ensures { λ r. ⌜ (r ≤ n)
+        × ((i : ℕ) → i < r → unlike (now (av .entry)) (now (au .entry)) (now (bv .entry)) (now (bu .entry)) i ≡ 0) ⌝ }
 {
     let mut k = 0;
     while 8 <= n - k {
@@ -125,10 +127,12 @@ fn marks_at(
     n: usize,
     k: usize,
 ) -> Marks
-    requires { ⌜ (wordCount (a .width) ≤ length (now av)) × (wordCount (a .width) ≤ length (now au)) ⌝ }
-    requires { ⌜ (wordCount (b .width) ≤ length (now bv)) × (wordCount (b .width) ≤ length (now bu)) ⌝ }
+    requires { ⌜ covers a (lent (now av) (now au)) × covers b (lent (now bv) (now bu)) ⌝ }
     requires { ⌜ (n * 64 ≤ width) × ((n * 64 ≤ a .width) × (n * 64 ≤ b .width)) ⌝ }
-    ensures { λ r. ⌜ r ≡ cutMarks width k (marksOf op (wordAt (λ i. getD (fromPlanes (a .width) (now (av .entry)) (now (au .entry))) i (a .beyond)) k) (wordAt (λ i. getD (fromPlanes (b .width) (now (bv .entry)) (now (bu .entry))) i (b .beyond)) k)) ⌝ }
+    ensures { λ r. ⌜ r
+        ≡ cutMarks width k
+        (marksOf op (wordAt (placeOf a (lent (now (av .entry)) (now (au .entry)))) k)
+        (wordAt (placeOf b (lent (now (bv .entry)) (now (bu .entry)))) k)) ⌝ }
 {
     if k < n {
         let x = Word {
@@ -154,8 +158,53 @@ fn marks_at(
     }
 }
 
-// The comparison of two accepted vectors: the words are scanned from the first that was not passed over, and the scan is left at the first
-// mismatch. 0 there, else x where a place is in doubt, else 1.
+// Scans two operands whose fills are settled, each read by its extent, at the width. The words are scanned from the first that was not passed
+// over, the bits of a word's mismatches from the lowest, and the scan is left at the first mismatch.
+pub fn scan_extents(
+    op: Comparison,
+    a: Extent,
+    av: &[u64],
+    au: &[u64],
+    b: Extent,
+    bv: &[u64],
+    bu: &[u64],
+    width: u32,
+) -> Found
+    requires { ⌜ covers a (lent (now av) (now au)) × covers b (lent (now bv) (now bu)) ⌝ }
+    requires { ⌜ (a .width ≤ width) × (b .width ≤ width) ⌝ }
+    ensures { λ r. ⌜ r
+        ≡ found op (placesOver width a (lent (now (av .entry)) (now (au .entry))) b (lent (now (bv .entry)) (now (bu .entry)))) ⌝ }
+{
+    let n = least(a.width as usize, b.width as usize) / 64;
+    let count = words::word_count(width);
+    let mut doubt = 0;
+    let mut j = 0;
+    let mut k = pass_same(av, au, bv, bu, n);
+    'words: loop {
+        if count <= k {
+            return if doubt == 0 {
+                Found::Same
+            } else {
+                Found::Unsure
+            };
+        }
+        let m = marks_at(op, a, av, au, b, bv, bu, width, n, k);
+        let mut bits = m.apart;
+        j = 0;
+        while bits != 0 {
+            if bits % 2 == 1 {
+                break 'words;
+            }
+            bits = bits / 2;
+            j += 1;
+        }
+        doubt = doubt | m.doubt;
+        k += 1;
+    }
+    Found::Mismatch((k * 64 + j) as u32)
+}
+
+// The comparison of two accepted vectors: their fills are settled, by the extent at which each is read, and the scan's finding gives the bit.
 pub fn compare(
     op: Comparison,
     a: Header,
@@ -167,33 +216,12 @@ pub fn compare(
 ) -> LogicBit
     requires { ⌜ Plane (a .width) (now av) × Plane (a .width) (now au) ⌝ }
     requires { ⌜ Plane (b .width) (now bv) × Plane (b .width) (now bu) ⌝ }
-    ensures { λ r. ⌜ r ≡ compared op (vector a (lent (now (av .entry)) (now (au .entry)))) (vector b (lent (now (bv .entry)) (now (bu .entry)))) ⌝ }
+    ensures { λ r. ⌜ r
+        ≡ compared op (vector a (lent (now (av .entry)) (now (au .entry)))) (vector b (lent (now (bv .entry)) (now (bu .entry)))) ⌝ }
 {
     let t = operator(op);
     let x = extension::inner::extent(t, a, av, au, b);
     let y = extension::inner::extent(t, b, bv, bu, a);
     let width = extension::larger(a.width, b.width);
-    let n = least(x.width as usize, y.width as usize) / 64;
-    let count = words::word_count(width);
-    let mut doubt = 0;
-    let mut k = pass_same(av, au, bv, bu, n);
-    'words: while k < count {
-        let m = marks_at(op, x, av, au, y, bv, bu, width, n, k);
-        let mut bits = m.apart;
-        while bits != 0 {
-            if bits % 2 == 1 {
-                break 'words;
-            }
-            bits = bits / 2;
-        }
-        doubt = doubt | m.doubt;
-        k += 1;
-    }
-    if k < count {
-        LogicBit::Zero
-    } else if doubt == 0 {
-        LogicBit::One
-    } else {
-        LogicBit::X
-    }
+    crate::answer_bit(scan_extents(op, x, av, au, y, bv, bu, width))
 }

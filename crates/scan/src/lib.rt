@@ -1,4 +1,8 @@
 // The comparisons of two vectors, decided place by place in one scan.
+use bit::LogicBit;
+ghost use mathlib.Core.Path.{_≡_};
+ghost use Rattle.scan.specs.Compared.{answerBit};
+
 pub mod inner;
 
 // How two vectors are compared, place by place.
@@ -8,4 +12,22 @@ pub enum Comparison {
     CasezEqual,
     CasexEqual,
     WildcardEqual,
+}
+
+// What a scan of two operands finds: the lowest place that mismatches; where none does, whether some place leaves the answer open.
+pub enum Found {
+    Mismatch(u32),
+    Unsure,
+    Same,
+}
+
+// The answer of a comparison, by what its scan found: 0, x or 1.
+pub fn answer_bit(found: Found) -> LogicBit
+    ensures { λ r. ⌜ r ≡ answerBit found ⌝ }
+{
+    match found {
+        Found::Mismatch(_) => LogicBit::Zero,
+        Found::Unsure => LogicBit::X,
+        Found::Same => LogicBit::One,
+    }
 }

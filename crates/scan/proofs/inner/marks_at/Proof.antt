@@ -58,7 +58,7 @@ returns c =
     let t = c .before .before .before .before .before in
     let s = t .before .before .before .before .before in
     let a = s .args in
-    let p = s .pre .1 .1 in
+    let p = s .pre .1 in
     let l = t .if1 .taken in
     whole-marks (a .op) (a .width) (a .a) (a .b) (a .av .now) (a .au .now) (a .bv .now) (a .bu .now) (a .k)
     (omega (arith, l, p .0)) (omega (arith, l, p .1 .0)) (omega (arith, l, p .1 .1)) _ (c .lane-marks .ensures)
