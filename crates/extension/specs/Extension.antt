@@ -2,11 +2,12 @@
 -- a fill, 5.7.1). Which operator extends by the top bit and which stretches a fill is told by the two tables, and nowhere else.
 use mathlib.Core.Bool.{Bool, true, false, not, _&&_, cond}
 use mathlib.Core.List.{List}
-use Prim.Native.Nat.{ℕ, _-_, max}
+use Prim.Native.Nat.{ℕ, _-_, _≤_, max}
 use lib.ListN.{length, getD}
 use Rattle.bit.specs.declared.LogicBit.{LogicBit}
 use Rattle.bit.specs.declared.LogicBit.the-variants.{Zero}
 use Rattle.words.specs.Vector.{at}
+use Rattle.words.specs.Planes.{Planes, wordCount, vectorOf}
 use Rattle.value.specs.declared.Header.{Header}
 use Rattle.value.specs.Checks.{Vector}
 use Rattle.extension.specs.declared.Extent.{Extent}
@@ -70,3 +71,11 @@ abbrev pub extentOf : Operator → Vector → Header → Extent
 extentOf op a b =
     cond (stretched op (a .header)) (record { width = 0; beyond = at (a .bits) 0 })
     (record { width = a .header .width; beyond = extension op a b })
+
+-- place i of an operand that is read by its extent
+abbrev pub extentAt : Extent → Planes → ℕ → LogicBit
+extentAt a p i = getD (vectorOf (a .width) p) i (a .beyond)
+
+-- the planes hold every word of the extent's width
+abbrev pub Covers : Extent → Planes → Type 0
+Covers a p = (wordCount (a .width) ≤ length (p .value)) × (wordCount (a .width) ≤ length (p .unknown))

@@ -6,12 +6,12 @@ use Rattle.bit.specs.declared.LogicBit.{LogicBit}
 use Rattle.bit.specs.Rules.{notBit}
 use Rattle.words.specs.declared.Word.{Word}
 use Rattle.words.specs.Vector.{tabulate, at}
-use Rattle.words.specs.Planes.{Planes, vectorOf, wordBy}
+use Rattle.words.specs.Planes.{Planes, wordBy}
 use Rattle.value.specs.Checks.{Vector}
 use Rattle.extension.specs.declared.Extent.{Extent}
 use Rattle.extension.specs.declared.Operator.{Operator}
 use Rattle.extension.specs.declared.Operator.the-variants as operator-of
-use Rattle.extension.specs.Extension.{largerWidth, operandAt}
+use Rattle.extension.specs.Extension.{largerWidth, operandAt, extentAt}
 use Rattle.lanes.specs.Lanes.{opBit, laneWord}
 use Rattle.lanes.specs.declared.Bitwise.{Bitwise}
 use Rattle.lanes.specs.declared.Bitwise.the-variants.{And, Or, Xor, Merge}
@@ -28,11 +28,11 @@ abbrev pub joinedWord : Bitwise → Planes → Planes → ℕ → Word
 joinedWord op p q k =
     laneWord (opBit op) (wordBy (getD (p .value) k 0) (getD (p .unknown) k 0)) (wordBy (getD (q .value) k 0) (getD (q .unknown) k 0))
 
--- the rule at each place of two settled operands, at width w: the bits of each are those of its planes below its extent's width, and the
--- extent's bit at each place from there on (document 01, "Result vector": a fill is first stretched, the shorter operand extended)
+-- the rule at each place of two settled operands, each read by its extent, at width w (document 01, "Result vector": a fill is first stretched, the
+-- shorter operand extended)
 abbrev pub joinedOver : Bitwise → ℕ → Extent → Planes → Extent → Planes → List LogicBit
 joinedOver op w a p b q =
-    tabulate w (λ i. opBit op (getD (vectorOf (a .width) p) i (a .beyond)) (getD (vectorOf (b .width) q) i (b .beyond)))
+    tabulate w (λ i. opBit op (extentAt a p i) (extentAt b q i))
 
 -- the rule at each place of the larger width
 abbrev pub joined : Bitwise → Vector → Vector → List LogicBit

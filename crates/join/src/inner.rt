@@ -17,6 +17,7 @@ ghost use lib.ListN.{length};
 ghost use Rattle.words.specs.Vector.{FilledTo};
 ghost use Rattle.words.specs.Planes.{wordCount, fromPlanes, lent, planesOf, Plane};
 ghost use Rattle.value.specs.Checks.{vector};
+ghost use Rattle.extension.specs.Extension.{Covers};
 ghost use Rattle.join.specs.Joined as joined;
 ghost use Rattle.join.specs.Joined.{joinedWord, joinedOver, joined, inverted};
 
@@ -113,8 +114,8 @@ fn join_extents(
     ov: &mut [u64],
     ou: &mut [u64],
 )
-    requires { ⌜ (wordCount (x .width) ≤ length (now av)) × (wordCount (x .width) ≤ length (now au)) ⌝ }
-    requires { ⌜ (wordCount (y .width) ≤ length (now bv)) × (wordCount (y .width) ≤ length (now bu)) ⌝ }
+    requires { ⌜ Covers x (lent (now av) (now au)) ⌝ }
+    requires { ⌜ Covers y (lent (now bv) (now bu)) ⌝ }
     requires { ⌜ (x .width ≤ width) × (y .width ≤ width) ⌝ }
     requires { ⌜ (length (now ov) ≡ wordCount width) × (length (now ou) ≡ wordCount width) ⌝ }
     ensures { λ _. ⌜ lent (now (ov .exit)) (now (ou .exit))

@@ -32,7 +32,7 @@ use Rattle.extension.proofs.Extension.{extent-at, extent-narrow}
 use Rattle.scan.specs.declared.Comparison.{Comparison}
 use Rattle.scan.specs.declared.Comparison.the-variants.{Equal, CaseEqual, CasezEqual, CasexEqual, WildcardEqual}
 use Rattle.scan.specs.declared.Found.the-variants.{Mismatch, Unsure, Same}
-use Rattle.scan.specs.Compared.{operator, mismatch, unsure, onPair, decided, places, compared, lowest, found, answerBit, placesOver}
+use Rattle.scan.specs.Compared.{operator, mismatch, unsure, onPair, decided, places, compared, lowest, found, foundBit, placesOver}
 
 -- what stands at each place beyond the width
 abbrev pub zeros : LogicBit × LogicBit
@@ -83,10 +83,10 @@ narrow t a b v u x e = rw e (extent-narrow t (vector a (lent v u)) b)
 
 -- ---- what a scan finds
 
-pub answer-found : (op : Comparison) (ps : List (LogicBit × LogicBit)) → answerBit (found op ps) ≡ decided op ps
+pub answer-found : (op : Comparison) (ps : List (LogicBit × LogicBit)) → foundBit (found op ps) ≡ decided op ps
 answer-found op ps = go (anyOf (onPair (mismatch op)) ps) (anyOf (onPair (unsure op)) ps)
   where
-    go : (m d : Bool) → answerBit (cond m (Mismatch (lowest (onPair (mismatch op)) ps)) (cond d Unsure Same)) ≡ cond m Zero (cond d X One)
+    go : (m d : Bool) → foundBit (cond m (Mismatch (lowest (onPair (mismatch op)) ps)) (cond d Unsure Same)) ≡ cond m Zero (cond d X One)
     go true d = refl
     go false true = refl
     go false false = refl

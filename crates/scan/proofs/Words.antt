@@ -34,10 +34,11 @@ use Rattle.fold.proofs.Gather.{gather-cong, gather-add}
 use Rattle.fold.proofs.Places.{any-some, nonzero, inside}
 use Rattle.fold.proofs.Scan.{start, more}
 use Rattle.extension.specs.declared.Extent.{Extent}
+use Rattle.extension.specs.Extension.{extentAt}
 use Rattle.scan.specs.declared.Comparison.{Comparison}
 use Rattle.scan.specs.declared.Found.the-variants.{Mismatch}
 use Rattle.scan.specs.declared.inner.Marks.{Marks}
-use Rattle.scan.specs.Compared.{mismatch, unsure, onPair, decided, found, placeOf, placesOver, wordPlaces, marked, marksOf, cutMarks, unlike}
+use Rattle.scan.specs.Compared.{mismatch, unsure, onPair, decided, found, placesOver, wordPlaces, marked, marksOf, cutMarks, unlike}
 use Rattle.scan.proofs.Places.{zeros, zero-apart, zero-unsure, one-apart, one-unsure, Compared, found-at, answered, by-tests}
 
 abbrev pub marksBy : ℕ → ℕ → Marks
@@ -205,7 +206,7 @@ module _ (op : Comparison) (w : ℕ) (a b : Extent) (av au bv bu : List ℕ) whe
       → (d : ℕ) → Compared op (placesOver w a (lent av au) b (lent bv bu)) d k
       → Compared op (placesOver w a (lent av au) b (lent bv bu)) (bitOr d (m .doubt)) (k + 1)
   next-whole k hw ha hb m e z d s =
-      next op (placeOf a (lent av au)) (placeOf b (lent bv bu)) w k
+      next op (extentAt a (lent av au)) (extentAt b (lent bv bu)) w k
       (wordIn av au k) (wordIn bv bu k)
       (λ j l. sym (inside (a .width) av au (a .beyond) k j l (omega arith)))
       (λ j l. sym (inside (b .width) bv bu (b .beyond) k j l (omega arith)))
@@ -213,10 +214,10 @@ module _ (op : Comparison) (w : ℕ) (a b : Extent) (av au bv bu : List ℕ) whe
 
   pub whole-marks : (k : ℕ) → k * 64 + 64 ≤ w → k * 64 + 64 ≤ a .width → k * 64 + 64 ≤ b .width
       → (m : Marks) → m ≡ marksOf op (wordBy (getD av k 0) (getD au k 0)) (wordBy (getD bv k 0) (getD bu k 0))
-      → m ≡ cutMarks w k (marksOf op (wordAt (placeOf a (lent av au)) k) (wordAt (placeOf b (lent bv bu)) k))
+      → m ≡ cutMarks w k (marksOf op (wordAt (extentAt a (lent av au)) k) (wordAt (extentAt b (lent bv bu)) k))
   whole-marks k hw ha hb m e =
-      let f : ℕ → LogicBit = placeOf a (lent av au) in
-      let g : ℕ → LogicBit = placeOf b (lent bv bu) in
+      let f : ℕ → LogicBit = extentAt a (lent av au) in
+      let g : ℕ → LogicBit = extentAt b (lent bv bu) in
       let hx : (j : ℕ) → j < 64 → bitOf (wordIn av au k) j ≡ bitOf (wordAt f k) j = λ j l. sym (inside (a .width) av au (a .beyond) k j l (omega arith)) ∙ sym (word-bit f k j l) in
       let hy : (j : ℕ) → j < 64 → bitOf (wordIn bv bu k) j ≡ bitOf (wordAt g k) j = λ j l. sym (inside (b .width) bv bu (b .beyond) k j l (omega arith)) ∙ sym (word-bit g k j l) in
       whole op w k (wordAt f k) (wordAt g k) m

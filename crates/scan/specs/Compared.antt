@@ -1,21 +1,21 @@
 -- Document 01, "Answer bit": equality (IEEE 1800-2017, 11.4.5), case, casez and casex equality (12.5), wildcard equality (11.4.6).
 use mathlib.Core.Bool.{Bool, false, not, _&&_, _||_, cond}
 use mathlib.Core.List.{List, [], _∷_}
-use Prim.Native.Nat.{ℕ, suc, _-_, _*_, _^_, _≤_, min}
+use Prim.Native.Nat.{ℕ, suc, _-_, _*_, _^_, min}
 use lib.Bits.{bitAnd, bitOr, bitXor}
-use lib.ListN.{length, getD}
+use lib.ListN.{getD}
 use Rattle.bit.specs.declared.LogicBit.{LogicBit}
 use Rattle.bit.specs.declared.LogicBit.the-variants.{Zero, One, X, Z}
 use Rattle.bit.specs.Rules.{same, known}
 use Rattle.words.specs.declared.Word.{Word}
 use Rattle.words.specs.Vector.{tabulate, pack}
-use Rattle.words.specs.Planes.{Planes, wordCount, bitOf, vectorOf}
+use Rattle.words.specs.Planes.{Planes, bitOf}
 use Rattle.value.specs.Checks.{Vector}
 use Rattle.fold.specs.Fold.{anyOf}
 use Rattle.extension.specs.declared.Extent.{Extent}
 use Rattle.extension.specs.declared.Operator.{Operator}
 use Rattle.extension.specs.declared.Operator.the-variants as operator-of
-use Rattle.extension.specs.Extension.{largerWidth, operandAt}
+use Rattle.extension.specs.Extension.{largerWidth, operandAt, extentAt}
 use Rattle.scan.specs.declared.Comparison.{Comparison}
 use Rattle.scan.specs.declared.Comparison.the-variants.{Equal, CaseEqual, CasezEqual, CasexEqual, WildcardEqual}
 use Rattle.scan.specs.declared.Found.{Found}
@@ -88,22 +88,14 @@ found op ps =
     (cond (anyOf (onPair (unsure op)) ps) Unsure Same)
 
 -- the answer bit: 0 on a mismatch, x where the answer is open, else 1
-abbrev pub answerBit : Found → LogicBit
-answerBit (Mismatch i) = Zero
-answerBit Unsure = X
-answerBit Same = One
-
--- the planes hold every word of the extent's width
-abbrev pub covers : Extent → Planes → Type 0
-covers a p = (wordCount (a .width) ≤ length (p .value)) × (wordCount (a .width) ≤ length (p .unknown))
-
--- place i of an operand that is read by its extent
-abbrev pub placeOf : Extent → Planes → ℕ → LogicBit
-placeOf a p i = getD (vectorOf (a .width) p) i (a .beyond)
+abbrev pub foundBit : Found → LogicBit
+foundBit (Mismatch i) = Zero
+foundBit Unsure = X
+foundBit Same = One
 
 -- the two bits at each place below w of two operands that are read by their extents
 abbrev pub placesOver : ℕ → Extent → Planes → Extent → Planes → List (LogicBit × LogicBit)
-placesOver w a p b q = tabulate w (λ i. (placeOf a p i, placeOf b q i))
+placesOver w a p b q = tabulate w (λ i. (extentAt a p i, extentAt b q i))
 
 -- ---- what the inner functions give
 

@@ -16,8 +16,9 @@ ghost use Prim.Native.Nat.{ℕ, _*_, _≤_, _<_};
 ghost use lib.ListN.{length};
 ghost use Rattle.words.specs.Planes.{wordAt, lent, Plane};
 ghost use Rattle.value.specs.Checks.{vector};
+ghost use Rattle.extension.specs.Extension.{extentAt, Covers};
 ghost use Rattle.scan.specs.Compared as compared;
-ghost use Rattle.scan.specs.Compared.{decided, found, compared, covers, placeOf, placesOver, wordPlaces, marksOf, cutMarks, unlike};
+ghost use Rattle.scan.specs.Compared.{decided, found, compared, placesOver, wordPlaces, marksOf, cutMarks, unlike};
 
 // The 64 places of a word of each operand: a one where they mismatch, and a one where an unknown bit leaves the answer in doubt.
 struct Marks {
@@ -127,12 +128,12 @@ fn marks_at(
     n: usize,
     k: usize,
 ) -> Marks
-    requires { ⌜ covers a (lent (now av) (now au)) × covers b (lent (now bv) (now bu)) ⌝ }
+    requires { ⌜ Covers a (lent (now av) (now au)) × Covers b (lent (now bv) (now bu)) ⌝ }
     requires { ⌜ (n * 64 ≤ width) × ((n * 64 ≤ a .width) × (n * 64 ≤ b .width)) ⌝ }
     ensures { λ r. ⌜ r
         ≡ cutMarks width k
-        (marksOf op (wordAt (placeOf a (lent (now (av .entry)) (now (au .entry)))) k)
-        (wordAt (placeOf b (lent (now (bv .entry)) (now (bu .entry)))) k)) ⌝ }
+        (marksOf op (wordAt (extentAt a (lent (now (av .entry)) (now (au .entry)))) k)
+        (wordAt (extentAt b (lent (now (bv .entry)) (now (bu .entry)))) k)) ⌝ }
 {
     if k < n {
         let x = Word {
@@ -170,7 +171,7 @@ pub fn scan_extents(
     bu: &[u64],
     width: u32,
 ) -> Found
-    requires { ⌜ covers a (lent (now av) (now au)) × covers b (lent (now bv) (now bu)) ⌝ }
+    requires { ⌜ Covers a (lent (now av) (now au)) × Covers b (lent (now bv) (now bu)) ⌝ }
     requires { ⌜ (a .width ≤ width) × (b .width ≤ width) ⌝ }
     ensures { λ r. ⌜ r
         ≡ found op (placesOver width a (lent (now (av .entry)) (now (au .entry))) b (lent (now (bv .entry)) (now (bu .entry)))) ⌝ }
@@ -223,5 +224,5 @@ pub fn compare(
     let x = extension::inner::extent(t, a, av, au, b);
     let y = extension::inner::extent(t, b, bv, bu, a);
     let width = extension::larger(a.width, b.width);
-    crate::answer_bit(scan_extents(op, x, av, au, y, bv, bu, width))
+    crate::found_bit(scan_extents(op, x, av, au, y, bv, bu, width))
 }

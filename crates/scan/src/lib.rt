@@ -1,7 +1,7 @@
 // The comparisons of two vectors, decided place by place in one scan.
 use bit::LogicBit;
 ghost use mathlib.Core.Path.{_≡_};
-ghost use Rattle.scan.specs.Compared.{answerBit};
+ghost use Rattle.scan.specs.Compared.{foundBit};
 
 pub mod inner;
 
@@ -22,8 +22,8 @@ pub enum Found {
 }
 
 // The answer of a comparison, by what its scan found: 0, x or 1.
-pub fn answer_bit(found: Found) -> LogicBit
-    ensures { λ r. ⌜ r ≡ answerBit found ⌝ }
+pub fn found_bit(found: Found) -> LogicBit
+    ensures { λ r. ⌜ r ≡ foundBit found ⌝ }
 {
     match found {
         Found::Mismatch(_) => LogicBit::Zero,

@@ -5,7 +5,7 @@ use native.Mathlib.Omega.{arith}
 use borrow.Author.Needs.{needs}
 use Rattle.words.specs.Planes.{wordCount, lent}
 use Rattle.value.specs.Checks.{vector}
-use Rattle.scan.specs.Compared.{places, found, answerBit}
+use Rattle.scan.specs.Compared.{places, found, foundBit}
 use Rattle.scan.proofs.Places.{narrow, over-extents, answer-found}
 use Rattle.scan.proofs.inner.compare.Statement.{statement}
 use Rattle.scan.proofs.inner.compare.Tie as tie
@@ -36,8 +36,8 @@ scan-extents-requires c κs =
       (omega (arith, hx, c .larger .ensures), omega (arith, hy, c .larger .ensures)),
     )
 
-answer-bit-requires : tie.Need-answer-bit-requires
-answer-bit-requires c κs = search needs
+found-bit-requires : tie.Need-found-bit-requires
+found-bit-requires c κs = search needs
 
 returns : tie.Need-returns
 returns c =
@@ -48,7 +48,7 @@ returns c =
     let a = o .before .before .before .before .before .args in
     let e = over-extents (a .op) (a .a) (a .b) (a .av .now) (a .au .now) (a .bv .now) (a .bu .now) _ (o .operator .ensures) _ _
     (y .before .extent .ensures) (y .extent2 .ensures) _ (w .larger .ensures) in
-    c .answer-bit .ensures ∙ ap answerBit (f .scan-extents .ensures ∙ ap (found (a .op)) e)
+    c .found-bit .ensures ∙ ap foundBit (f .scan-extents .ensures ∙ ap (found (a .op)) e)
     ∙ answer-found (a .op) (places (a .op) (vector (a .a) (lent (a .av .now) (a .au .now))) (vector (a .b) (lent (a .bv .now) (a .bu .now))))
 
 pub compare-spec : {M : Type 1} → statement M
@@ -60,5 +60,5 @@ compare-spec =
     extent-requires-2
     larger-requires
     scan-extents-requires
-    answer-bit-requires
+    found-bit-requires
     returns)

@@ -13,7 +13,8 @@ use Rattle.words.specs.Planes.{wordCount, wordAt, lent}
 use Rattle.words.proofs.Planes.{length-tabulate}
 use Rattle.words.proofs.Extend.{word-bit}
 use Rattle.scan.specs.declared.Found.the-variants.{Unsure, Same}
-use Rattle.scan.specs.Compared.{found, placeOf, placesOver}
+use Rattle.extension.specs.Extension.{extentAt}
+use Rattle.scan.specs.Compared.{found, placesOver}
 use Rattle.scan.proofs.Places.{Compared, found-none}
 use Rattle.scan.proofs.Words.{halved, few, next, left, same-start}
 use Rattle.scan.proofs.inner.scan_extents.Statement.{statement}
@@ -127,8 +128,8 @@ words-again c =
     let m = b .before .before in
     let l = m .before .before in
     let a = l .before .before .before .before .before .before .before .before .before .before .args in
-    let f : ℕ → LogicBit = placeOf (a .a) (lent (a .av .now) (a .au .now)) in
-    let g : ℕ → LogicBit = placeOf (a .b) (lent (a .bv .now) (a .bu .now)) in
+    let f : ℕ → LogicBit = extentAt (a .a) (lent (a .av .now) (a .au .now)) in
+    let g : ℕ → LogicBit = extentAt (a .b) (lent (a .bv .now) (a .bu .now)) in
     let k = l .words .k in
     next (a .op) f g (a .width) k (wordAt f k) (wordAt g k) (word-bit f k) (word-bit g k) _ (m .marks-at .ensures) (l .words .doubt) (l .words .inv)
     (b .before .loop .inv .0 ∙ ap (λ (n : ℕ). n * 2 ^ b .before .loop .j) (b .loop-test .left) ∙ zero-mul _)
@@ -148,8 +149,8 @@ returns-3 c =
     let m = b .before in
     let l = m .before .before in
     let a = l .before .before .before .before .before .before .before .before .before .before .args in
-    let f : ℕ → LogicBit = placeOf (a .a) (lent (a .av .now) (a .au .now)) in
-    let g : ℕ → LogicBit = placeOf (a .b) (lent (a .bv .now) (a .bu .now)) in
+    let f : ℕ → LogicBit = extentAt (a .a) (lent (a .av .now) (a .au .now)) in
+    let g : ℕ → LogicBit = extentAt (a .b) (lent (a .bv .now) (a .bu .now)) in
     let k = l .words .k in
     left (a .op) f g (a .width) k (wordAt f k) (wordAt g k) (word-bit f k) (word-bit g k) _ (m .marks-at .ensures) (l .words .doubt) (l .words .inv)
     (b .loop .bits) (b .loop .j) (b .loop .inv .0) (lies (c .before)) (omega arith)
