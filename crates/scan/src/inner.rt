@@ -114,8 +114,8 @@ fn pass_same(av: &[u64], au: &[u64], bv: &[u64], bu: &[u64], n: usize) -> usize
     k
 }
 
-// The places of word k of two operands that lie below the width. The first n words are whole in both and are read straight from the planes, the
-// others through the reader of extended operands.
+// The places of word k of two operands that lie below the width. The first n words are whole in both and are read straight from the
+// planes, the others through the reader of extended operands.
 fn marks_at(
     op: Comparison,
     a: Extent,
@@ -159,8 +159,8 @@ fn marks_at(
     }
 }
 
-// Scans two operands whose fills are settled, each read by its extent, at the width. The words are scanned from the first that was not passed
-// over, the bits of a word's mismatches from the lowest, and the scan is left at the first mismatch.
+// Scans two operands whose fills are settled, each read by its extent, at the width. The words are scanned from the first that was not
+// passed over, the bits of a word's mismatches from the lowest, and the scan is left at the first mismatch.
 pub fn scan_extents(
     op: Comparison,
     a: Extent,
@@ -205,7 +205,8 @@ pub fn scan_extents(
     Found::Mismatch((k * 64 + j) as u32)
 }
 
-// The comparison of two accepted vectors: their fills are settled, by the extent at which each is read, and the scan's finding gives the bit.
+// The comparison of two accepted vectors: their fills are settled, by the extent at which each is read, and what the scan finds gives the
+// bit.
 pub fn compare(
     op: Comparison,
     a: Header,

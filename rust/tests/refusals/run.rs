@@ -139,6 +139,7 @@ fn of_a_step() {
         (list(AND, ROR), [4, 4, 0, 1], "refused=13\nstep=1\n", 2),
         (list(AND, ROR), [4, 4, 1, 0], "refused=13\nstep=1\n", 2),
         (no_inputs, [1, 2, 1, 1], "refused=14\nstep=1\n", 0),
+        ("inputs=0\nsteps=0\n".to_string(), [1, 2, 1, 1], "done=0\n", 0),
     ];
     for (text, lengths, want, cells) in cases {
         let (output, count, [av, au, sv, su]) = runs(&text, lengths);
