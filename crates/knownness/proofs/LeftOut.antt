@@ -1,5 +1,5 @@
 -- What the two tables of ops leave out, and what exactness rules out.
---     left-out       each op that is left out loses a known bit in some run, and is not exact in some step
+--     left-out       an op is left out exactly if it loses a known bit in some run, and if it is not exact in some step
 --     signed-inexact, fill-inexact     equalities that are not exact since one unknown bit stands at several places
 --     exact-fixes    two cells that are both exact have the same known bits: a module that gives x for everything is not exact
 use mathlib.Core.Path.{_≡_, refl, sym, _∙_, subst, ap₂}
@@ -23,18 +23,19 @@ use Rattle.ops.specs.declared.Op.{Op}
 use Rattle.ops.specs.declared.Op.the-variants.{And, Or, Xor, Not, Merge, ReduceAnd, ReduceOr, ReduceXor, Equal, CaseEqual, CasezEqual, CasexEqual, WildcardEqual, LogicAnd, LogicOr, Select, Insert}
 use Rattle.ops.specs.declared.Step.{Step}
 use Rattle.machine.specs.Machine.{Room, headersOf, cellAt, wordsTaken, checkStep, stepCell, runFrom, machineRun}
-use Rattle.knownness.specs.Knownness.{keepsKnown, isExact, Known, Refines, Completes, Pointwise, Cellwise, AllSound, gives, AllGive, ExactStep, Loses, Inexact, LeftOut}
+use Rattle.knownness.specs.Knownness.{keepsKnown, isExact, AllKeep, Known, Refines, Completes, Pointwise, Cellwise, AllSound, gives, AllGive, ExactStep, Loses, Inexact, LeftOut}
+use Rattle.knownness.proofs.Runs.{step-exact, alike}
 
--- ---- x beside x, and 0 beside 1, which refines and completes it
+-- ---- zx beside zx, and 00 beside 11, which refine and complete it
 
-bit : LogicBit → Vector
-bit b = record { header = plain 1; bits = b ∷ [] }
+pair : LogicBit → LogicBit → Vector
+pair a b = record { header = plain 2; bits = a ∷ b ∷ [] }
 
 unknown : List Vector
-unknown = bit X ∷ bit X ∷ []
+unknown = pair X Z ∷ pair X Z ∷ []
 
 apart : List Vector
-apart = bit Zero ∷ bit One ∷ []
+apart = pair Zero Zero ∷ pair One One ∷ []
 
 abbrev of : Op → Step
 of op = record { op = op; a = 0; b = 1; c = 0 }
@@ -45,16 +46,18 @@ room = record { arena = 3; scratch = 1 }
 made : Op → List Vector → LogicBit
 made op cs = at (cellAt (machineRun room cs (of op ∷ []) .cells) 2 .bits) 0
 
-one-bit : (R : LogicBit → LogicBit → Type 0) → R Zero Zero → (a b : LogicBit) → R a b → Pointwise R (bit a) (bit b)
-unfolding bit
-one-bit R z a b h = (refl, refl, go)
+-- what holds of x and b, of z and b and of 0 and 0 holds at each place of zx and bb
+made-known : (R : LogicBit → LogicBit → Type 0) → R Zero Zero → (b : LogicBit) → R X b → R Z b → Pointwise R (pair X Z) (pair b b)
+unfolding pair
+made-known R n b x z = (refl, refl, go)
   where
-    go : (i : ℕ) → R (at (a ∷ []) i) (at (b ∷ []) i)
-    go zero = h
-    go (suc i) = z
+    go : (i : ℕ) → R (at (X ∷ Z ∷ []) i) (at (b ∷ b ∷ []) i)
+    go zero = x
+    go (suc zero) = z
+    go (suc (suc i)) = n
 
 sound : AllSound unknown
-unfolding unknown bit
+unfolding unknown pair
 sound zero = refl
 sound (suc zero) = refl
 sound (suc (suc j)) = refl
@@ -64,8 +67,8 @@ unfolding unknown apart
 refines = (refl, go)
   where
     go : (j : ℕ) → Pointwise Refines (cellAt unknown j) (cellAt apart j)
-    go zero = one-bit Refines (inl refl) X Zero (inr (tt, tt))
-    go (suc zero) = one-bit Refines (inl refl) X One (inr (tt, tt))
+    go zero = made-known Refines (inl refl) Zero (inr (tt, tt)) (inr (tt, tt))
+    go (suc zero) = made-known Refines (inl refl) One (inr (tt, tt)) (inr (tt, tt))
     go (suc (suc j)) = (refl, refl, λ i. inl refl)
 
 one-not-zero : _≢_ {A = LogicBit} Zero One
@@ -90,7 +93,7 @@ lost op e f = record {
 }
 
 not-exact : (op : Op) → checkStep room (headersOf unknown) (of op) ≡ given tt → op ≢ Equal → 0 < length (stepCell unknown (of op) .bits) → at (stepCell unknown (of op) .bits) 0 ≡ One
-    → gives op 0 false (bit Zero) (bit One) (bit Zero) 0 ≡ Zero → Inexact op
+    → gives op 0 false (pair Zero Zero) (pair One One) (pair Zero Zero) 0 ≡ Zero → Inexact op
 unfolding unknown
 not-exact op a n l e f = record {
   room = room;
@@ -101,16 +104,16 @@ not-exact op a n l e f = record {
   accepted = a;
   comparable = λ q. absurd (n q);
   inexact = λ x. one-not-zero (sym f
-      ∙ x 0 l One tt .0 e (bit Zero) (bit One) (bit Zero) (completed Zero tt) (completed One tt) (completed Zero tt) false);
+      ∙ x 0 l One tt .0 e (pair Zero Zero) (pair One One) (pair Zero Zero) (completed Zero tt) (completed One tt) (completed Zero tt) false);
 }
   where
-    completed : (b : LogicBit) → Known b → Pointwise Completes (bit X) (bit b)
-    completed b k = one-bit Completes (tt, λ q. refl) X b (k, λ q. absurd q)
+    completed : (b : LogicBit) → Known b → Pointwise Completes (pair X Z) (pair b b)
+    completed b k = made-known Completes (tt, λ q. refl) b (k, λ q. absurd q) (k, λ q. absurd q)
 
 -- ---- the tables
 
 loses : (op : Op) → T (not (keepsKnown op)) → Loses op
-unfolding made unknown apart bit room runFrom checkStep wordsTaken tabulate
+unfolding made unknown apart pair room runFrom checkStep wordsTaken tabulate
 loses And h = absurd h
 loses Or h = absurd h
 loses Xor h = absurd h
@@ -133,7 +136,7 @@ not-equal : (op : Op) → T (not (isExact op)) → op ≢ Equal
 not-equal op h e = subst (λ (o : Op). T (not (isExact o))) e h
 
 inexact : (op : Op) → T (not (isExact op)) → Inexact op
-unfolding unknown bit room checkStep wordsTaken tabulate
+unfolding unknown pair room checkStep wordsTaken tabulate
 inexact And h = absurd h
 inexact Or h = absurd h
 inexact Xor h = absurd h
@@ -152,8 +155,32 @@ inexact LogicOr h = absurd h
 inexact Select h = absurd h
 inexact Insert h = absurd h
 
+-- ---- the other way
+
+one-kept : (s : Step) → T (keepsKnown (s .op)) → AllKeep (s ∷ [])
+one-kept s t zero = t
+one-kept s t (suc k) = tt
+
+none-lost : (op : Op) → Loses op → ¬ (T (keepsKnown op))
+none-lost op l t =
+    l .changes
+    (alike (l .room) (l .inputs) (l .refined) (l .step ∷ []) (l .sound) (l .refines) .kept
+    (one-kept (l .step) (subst (λ (o : Op). T (keepsKnown o)) (sym (l .by)) t)) .1 (l .cell) .2 (l .place) (l .known-bit))
+
+none-inexact : (op : Op) → Inexact op → ¬ (T (isExact op))
+none-inexact op l t =
+    l .inexact
+    (step-exact (l .room) (l .cells) (l .step) tt (l .accepted) (l .sound) (subst (λ (o : Op). T (isExact o)) (sym (l .by)) t, l .comparable))
+
+refuted : (b : Bool) → ¬ (T b) → T (not b)
+refuted true n = n tt
+refuted false n = tt
+
 pub left-out : LeftOut
-left-out = record { loses = loses; inexact = inexact }
+left-out = record {
+  loses = λ op. (loses op, λ l. refuted (keepsKnown op) (none-lost op l));
+  inexact = λ op. (inexact op, λ l. refuted (isExact op) (none-inexact op l));
+}
 
 -- ---- equalities whose operands are not comparable
 

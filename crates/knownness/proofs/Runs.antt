@@ -2,7 +2,7 @@
 --     headers-again, sound-again     cells that are alike place by place have the same headers, and are in order together
 --     kept      on cells that keep known bits a run keeps them
 --     alike     the runs on inputs and on inputs that refine them end alike, and bits that are known stay
---     exact     each step that is run is known exactly
+--     step-exact, exact     each step that is run is known exactly
 use mathlib.Core.Path.{_≡_, refl, sym, _∙_, subst, ap, ap₂}
 use mathlib.Core.Bool.{false}
 use mathlib.Core.List.{List, [], _∷_, _++_, append-assoc}
@@ -58,7 +58,7 @@ accepted : (cs : List Vector) (s : Step) → AllSound cs → armsRefused (s .op)
 accepted cs s a e = record { first = a (s .a); second = a (s .b); third = a (s .c); arms = e }
 
 module _ (r : Room) where
-  step-exact : (cs : List Vector) (s : Step) (u : Unit) → checkStep r (headersOf cs) s ≡ given u → AllSound cs → Exactable cs s
+  pub step-exact : (cs : List Vector) (s : Step) (u : Unit) → checkStep r (headersOf cs) s ≡ given u → AllSound cs → Exactable cs s
       → ExactStep cs s (stepCell cs s)
   step-exact cs s u e a x i l v kv =
       op-exact (s .op) (s .c) (cellAt cs (s .a)) (cellAt cs (s .b)) (cellAt cs (s .c)) (accepted cs s a (arms-accepted r cs s u e)) (x .0) i l v kv

@@ -177,7 +177,7 @@ pub record Inexact (op : Op) : Type 0 where
   pub comparable : EqualityComparable cells step
   pub inexact : ¬ (ExactStep cells step (stepCell cells step))
 
--- no op is left out that need not be
+-- the tables leave out an op exactly if it must be
 pub record LeftOut : Type 0 where
-  pub loses : (op : Op) → T (not (keepsKnown op)) → Loses op
-  pub inexact : (op : Op) → T (not (isExact op)) → Inexact op
+  pub loses : (op : Op) → T (not (keepsKnown op)) ↔ Loses op
+  pub inexact : (op : Op) → T (not (isExact op)) ↔ Inexact op

@@ -2,6 +2,7 @@
 -- operands of equal width are comparable.
 use mathlib.Core.Path.{refl, sym, subst}
 use mathlib.Core.Bool.{not}
+use mathlib.Core.Logic.{_≢_}
 use mathlib.Core.List.{List, [], _∷_}
 use Prim.Native.Nat.{ℕ, zero, suc, _+_}
 use lib.Dec.{T}
@@ -15,7 +16,7 @@ use Rattle.knownness.proofs.Machine.{run-no-fill}
 use Rattle.steps.specs.Demand.{room, runOn, cellsLeft, Demanded, Demand, Demand3, TextDemand3}
 use Rattle.steps.proofs.Refinement.{refinement, text-sound, of-texts}
 
--- ---- the ops
+-- ---- the ops: those of which none of the four names is theirs, and those that the table has
 
 named-kept : (op : Op) → Demanded op → T (keepsKnown op)
 named-kept And d = tt
@@ -35,6 +36,18 @@ named-kept LogicAnd d = tt
 named-kept LogicOr d = tt
 named-kept Select d = tt
 named-kept Insert d = tt
+
+-- an op is named where another is of which the table says otherwise
+other : (op o : Op) → T (keepsKnown op) → ¬ (T (keepsKnown o)) → op ≢ o
+other op o t f e = f (subst (λ (x : Op). T (keepsKnown x)) e t)
+
+pub kept-named : (op : Op) → T (keepsKnown op) → Demanded op
+kept-named op t = (
+  other op CaseEqual t (λ x. x),
+  other op CasezEqual t (λ x. x),
+  other op CasexEqual t (λ x. x),
+  other op WildcardEqual t (λ x. x),
+)
 
 -- ---- no fills
 

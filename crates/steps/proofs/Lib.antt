@@ -4,3 +4,4 @@ pub mod Inputs
 pub mod Loops
 pub mod Refinement
 pub mod Demand
+pub mod Case

@@ -1,6 +1,6 @@
--- What is proved of the run of a whole list beyond demand 3 (`Demand3`), of which it has no condition: of any list and any inputs, fills among them.
--- Known bits are kept in lists without case and wildcard comparisons, and every step of another op is known exactly; of an equality this is said
--- where neither operand is a fill and both are of equal width or one is unsigned.
+-- What is proved of the run of a whole list beyond demand 3 (`Demand3`): any list, and inputs with fills among them. Known bits are kept in lists
+-- without case and wildcard comparisons, and every step of another op is known exactly; of an equality this is said where neither operand is a
+-- fill and both are of equal width or one is unsigned.
 use mathlib.Core.Path.{_≡_}
 use mathlib.Core.List.{List, [], _∷_}
 use Prim.Native.Nat.{ℕ}
