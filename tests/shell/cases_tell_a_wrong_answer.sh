@@ -26,6 +26,9 @@ refusal() { spoil "^!. = $1" 's/!./!9/' 's/!./!/' 's/!//' 's/!.//'; }
 # a bit in word 65 of lent planes, where zeros are expected whatever the line says: it tells that planes are compared behind a refusal too
 above() { spoil "^!. = $1 1048577:16385:.*:" "s/.*:/&1$(printf %04160d 0)/"; }
 
+# a bit behind the planes of an answer of 3 or 4 bits, in a word that they do not have
+behind() { spoil "^u$1 = $2" "s/^u[^ ]*/u${#1}:2:2:1$(printf %0$((64 - ${#1}))d 0)$1/"; }
+
 bit_cases() {
     spoil '^0 = get' 's/^0/1/' 's/^0/x/' 's/^0/10/' 's/^/!/'
     spoil '^z = get' 's/^z/x/' 's/^z/1/'
@@ -35,7 +38,7 @@ bit_cases() {
     spoil '^1000 = splice_bits64 .* 1$' 's/^1/0/' 's/^1/z/' 's/1$/0/'
     spoil '^1000 = splice_bits64 .* 0$' 's/^1/0/' 's/^1/z/' 's/0$/1/'
     spoil '^11x = mask_top' 's/^1/0/' 's/^1/z/' 's/mask_top/mask/'
-    spoil '^0000 = set 0000' 's/^/!/'
+    spoil '^0000 = set 0000' 's/^/!/' "s/^/1$(printf %060d 0)/"
     refusal 'get 0:0:1:'
     refusal 'extract64 0:0:1:'
     refusal 'set 0:0:1:'
@@ -60,6 +63,7 @@ constructor_cases() {
     refusal 'zero 0:0:1:'
     refusal 'from_u64 0:0:1:'
     above new
+    behind 000 zero
     spoil '= from_real_wrapped' 's/from_real_wrapped/get/' 's/from_real_wrapped/from_real/'
     spoil '^!1 = from_real_wrapped 1048577:16385:16385:' 's/16385:/16386:/' 's/16385:/16386:/2'
 }
@@ -72,6 +76,7 @@ vector_cases() {
     spoil '^u111x = bitwise_or' 's/^u1/u0/' 's/^u1/uz/'
     spoil '^u0x = bitwise_xor' 's/^u0/u1/' 's/^u0/ux/'
     spoil '^u1x0 = bitwise_not 0z1' 's/^u\([^ ]*\)\(.*\) [^ ]*/!\1\2 \1/'
+    behind 01xx bitwise_and
     refusal 'bitwise_and 1048577:'
     refusal 'bitwise_not f0:1:1:'
     spoil '= bitwise_not' 's/bitwise_not/get/' 's/bitwise_not/bitwise/'

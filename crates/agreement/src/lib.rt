@@ -7,7 +7,7 @@ use words::Word;
 ghost use mathlib.Core.Path.{_≡_};
 ghost use lib.ListN.{getD};
 ghost use Rattle.agreement.specs.Answers.{answered, sameCode, sameHeader};
-ghost use Rattle.agreement.specs.Holds.{holdsFrom};
+ghost use Rattle.agreement.specs.Holds.{holdsFrom, sameWords};
 
 // A field of a line, read in each way that its text can be meant.
 pub struct Field {
@@ -84,8 +84,8 @@ fn word_at(words: &[u64], k: usize) -> u64
     0
 }
 
-// Whether a plane has those words, and zeros behind them.
-pub fn holds(plane: &[u64], words: &[u64]) -> bool
+// Whether each word of a plane is the word at its place, or 0 where there is none.
+fn holds(plane: &[u64], words: &[u64]) -> bool
     ensures { λ r. ⌜ r ≡ holdsFrom 0 (now (plane .entry)) (now (words .entry)) ⌝ }
 {
     let mut k = 0;
@@ -97,4 +97,14 @@ pub fn holds(plane: &[u64], words: &[u64]) -> bool
         k += 1;
     }
     true
+}
+
+// Whether two planes have the same words, with zeros behind the shorter.
+pub fn same_words(a: &[u64], b: &[u64]) -> bool
+    ensures { λ r. ⌜ r ≡ sameWords (now (a .entry)) (now (b .entry)) ⌝ }
+{
+    if !holds(a, b) {
+        return false;
+    }
+    holds(b, a)
 }

@@ -3,10 +3,11 @@
 --     extent-stretched, extent-plain    the extent by the tests of the code
 --     no-top                            the top bit of a vector that has none is 0
 --     extent-narrow                     it is no wider than the operand
+--     settled                           two operands put together as their extents say
 use mathlib.Core.Path.{_≡_, refl, sym, ap, ap₂, _∙_}
 use mathlib.Core.Bool.{Bool, true, false, not, _&&_, cond}
 use mathlib.Core.List.{List}
-use Prim.Native.Nat.{ℕ, _≤_}
+use Prim.Native.Nat.{ℕ, _≤_, max}
 use native.Mathlib.Omega.{arith}
 use borrow.Author.Tests.{not-false, eqb-true}
 use lib.Dec.{eqb}
@@ -14,12 +15,12 @@ use lib.ListN.{getD}
 use Rattle.bit.specs.declared.LogicBit.{LogicBit}
 use Rattle.bit.specs.declared.LogicBit.the-variants.{Zero}
 use Rattle.words.specs.Vector.{at, tabulate}
-use Rattle.words.specs.Planes.{fromPlanes, lent}
+use Rattle.words.specs.Planes.{fromPlanes, Planes, lent}
 use Rattle.value.specs.declared.Header.{Header}
 use Rattle.extension.specs.declared.Extent.{Extent}
 use Rattle.extension.specs.declared.Operator.{Operator}
 use Rattle.value.specs.Checks.{Vector, vector}
-use Rattle.extension.specs.Extension.{stretches, extendsByTop, top, stretched, signedFor, extension, operandAt, extentOf}
+use Rattle.extension.specs.Extension.{stretches, extendsByTop, top, stretched, signedFor, extension, operandAt, extentOf, extentAt}
 
 abbrev pub extentOver : ℕ → LogicBit → Extent
 extentOver w b = record { width = w; beyond = b }
@@ -77,5 +78,18 @@ narrow-by : (s : Bool) (w : ℕ) (first beyond : LogicBit) → extentBy s w firs
 narrow-by true w first beyond = omega arith
 narrow-by false w first beyond = omega arith
 
-pub extent-narrow : (op : Operator) (a : Vector) (b : Header) → extentOf op a b .width ≤ a .header .width
-extent-narrow op a b = narrow-by (stretched op (a .header)) (a .header .width) (at (a .bits) 0) (extension op a b)
+pub extent-narrow : (op : Operator) (a b : Header) (p : Planes) {x : Extent} → x ≡ extentOf op (vector a p) b → x .width ≤ a .width
+extent-narrow op a b p e = rw e (narrow-by (stretched op a) (a .width) (at (vector a p .bits) 0) (extension op (vector a p) b))
+
+-- two operands put together place by place as their extents say, at the larger width: so they are as the operator reads them
+module _ {A : Type 0} (f : LogicBit → LogicBit → A) (op : Operator) (a b : Header) (av au bv bu : List ℕ) where
+  pub settled : {t : Operator} → t ≡ op → {x y : Extent} → x ≡ extentOf t (vector a (lent av au)) b → y ≡ extentOf t (vector b (lent bv bu)) a
+      → (w : ℕ) → w ≡ max (a .width) (b .width)
+      → tabulate w (λ i. f (extentAt x (lent av au) i) (extentAt y (lent bv bu) i))
+      ≡ tabulate (max (a .width) (b .width)) (λ i. f (operandAt op (vector a (lent av au)) b i) (operandAt op (vector b (lent bv bu)) a i))
+  settled e hx hy w hw =
+      ap₂ (λ (x y : Extent). tabulate w (λ i. f (extentAt x (lent av au) i) (extentAt y (lent bv bu) i)))
+      (hx ∙ ap (λ (t : Operator). extentOf t (vector a (lent av au)) b) e)
+      (hy ∙ ap (λ (t : Operator). extentOf t (vector b (lent bv bu)) a) e)
+      ∙ (λ k. tabulate w (λ i. f (extent-at op a b av au i k) (extent-at op b a bv bu i k)))
+      ∙ ap (λ (n : ℕ). tabulate n (λ i. f (operandAt op (vector a (lent av au)) b i) (operandAt op (vector b (lent bv bu)) a i))) hw

@@ -1,51 +1,21 @@
 -- Two operands that are read by their extents, joined at a width that neither passes.
---     narrow                             an extent is no wider than the operand
---     settled                            joined as the extents say, they are joined by the operator
 --     all-written                        the planes of the result, once every word is written
 --     value-written, unknown-written     words of the result from those of the planes, where both operands have them whole
 use mathlib.Core.Path.{_≡_, sym, ap, ap₂, _∙_}
 use mathlib.Core.List.{List}
-use Prim.Native.Nat.{ℕ, _/_, _≤_, _<_, min, max}
+use Prim.Native.Nat.{ℕ, _/_, _≤_, _<_, min}
 use native.Mathlib.Omega.{arith}
 use lib.ListN.{length, getD}
 use Rattle.words.specs.declared.Word.{Word}
-use Rattle.words.specs.Vector.{at, tabulate, FilledTo}
-use Rattle.words.specs.Planes.{valueDigit, unknownDigit, wordCount, fromPlanes, wordOf, wordAt, Planes, lent, planesOf, wordBy}
+use Rattle.words.specs.Vector.{at, FilledTo}
+use Rattle.words.specs.Planes.{valueDigit, unknownDigit, wordCount, fromPlanes, wordOf, wordAt, lent, planesOf, wordBy}
 use Rattle.words.proofs.Planes.{length-tabulate}
 use Rattle.words.proofs.Fill.{plane-done}
-use Rattle.value.specs.declared.Header.{Header}
 use Rattle.extension.specs.declared.Extent.{Extent}
-use Rattle.extension.specs.declared.Operator.{Operator}
-use Rattle.value.specs.Checks.{vector}
-use Rattle.extension.specs.Extension.{operandAt, extentOf}
-use Rattle.extension.proofs.Extension.{extent-at, extent-narrow}
 use Rattle.lanes.specs.declared.Bitwise.{Bitwise}
 use Rattle.lanes.specs.Lanes.{opBit}
-use Rattle.join.specs.Joined.{operator, joinedWord, joinedOver, joined}
+use Rattle.join.specs.Joined.{joinedWord, joinedOver}
 use Rattle.lanes.proofs.Places.{direct, whole-word}
-
--- ---- fills settled
-
-pub narrow : (t : Operator) (a b : Header) (p : Planes) {x : Extent} → x ≡ extentOf t (vector a p) b → x .width ≤ a .width
-narrow t a b p e = rw e (extent-narrow t (vector a p) b)
-
-module _ (op : Bitwise) (a b : Header) (av au bv bu : List ℕ) {t : Operator} (e : t ≡ operator op) {x y : Extent}
-    (hx : x ≡ extentOf t (vector a (lent av au)) b) (hy : y ≡ extentOf t (vector b (lent bv bu)) a) (w : ℕ) (hw : w ≡ max (a .width) (b .width)) where
-  same-bits : joinedOver op w x (lent av au) y (lent bv bu) ≡ joined op (vector a (lent av au)) (vector b (lent bv bu))
-  same-bits =
-      ap₂ (λ (x y : Extent). joinedOver op w x (lent av au) y (lent bv bu))
-      (hx ∙ ap (λ (t : Operator). extentOf t (vector a (lent av au)) b) e)
-      (hy ∙ ap (λ (t : Operator). extentOf t (vector b (lent bv bu)) a) e)
-      ∙ (λ k. tabulate w (λ i. opBit op (extent-at (operator op) a b av au i k) (extent-at (operator op) b a bv bu i k)))
-      ∙ ap
-      (λ (n : ℕ). tabulate n
-      (λ i. opBit op (operandAt (operator op) (vector a (lent av au)) b i) (operandAt (operator op) (vector b (lent bv bu)) a i))) hw
-
-  pub settled : (p : Planes) → p ≡ planesOf (joinedOver op w x (lent av au) y (lent bv bu))
-      → p ≡ planesOf (joined op (vector a (lent av au)) (vector b (lent bv bu)))
-  settled p h = h ∙ ap planesOf same-bits
-
--- ---- words of settled operands
 
 module _ (op : Bitwise) (w : ℕ) (x : Extent) (av au : List ℕ) (y : Extent) (bv bu : List ℕ) where
   pub all-written : (k : ℕ) (ov ou : List ℕ) → FilledTo 0 (wordOf valueDigit (at (joinedOver op w x (lent av au) y (lent bv bu)))) (wordCount w) k ov

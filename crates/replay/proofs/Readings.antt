@@ -6,7 +6,7 @@ use Prim.Native.Nat.{ℕ, min}
 use lib.ListN.{length, replicate}
 use Rattle.words.specs.Planes.{Planes, lent}
 use Rattle.agreement.specs.declared.Field.{Field}
-use Rattle.agreement.specs.Holds.{holdsFrom}
+use Rattle.agreement.specs.Holds.{sameWords}
 use Rattle.replay.specs.declared.parse.Sizes.{Sizes}
 use Rattle.replay.specs.Text.{fieldText}
 use Rattle.replay.specs.Fields.{bitText, bitsOf, sizesOf, fieldOf, loaded, Reading, readField, leftAt, areLeft}
@@ -23,6 +23,6 @@ module _ (k : ℕ) (line : List ℕ) (p : Planes) (s b : List ℕ) (e : Sizes) (
 
 module _ (out : ℕ) (line : List ℕ) (p : Planes) (k : ℕ) (f : Field) (v u : List ℕ) where
   pub compared : k ≡ leftAt out line → read f v u ≡ readField k line (lent (replicate 65 0) (replicate 65 0))
-      → areLeft out line p ≡ (holdsFrom 0 (p .value) v && holdsFrom 0 (p .unknown) u)
+      → areLeft out line p ≡ (sameWords (p .value) v && sameWords (p .unknown) u)
   unfolding areLeft
   compared ek e = rw (sym ek, sym e)

@@ -15,7 +15,7 @@ use Rattle.words.specs.Vector.{tabulate, at}
 use Rattle.words.specs.Planes.{valueDigit, unknownDigit, wordCount, wordOf, wordAt, Planes, lent}
 use Rattle.text.specs.Answers.{bitsIn}
 use Rattle.agreement.specs.declared.Field.{Field}
-use Rattle.agreement.specs.Holds.{holdsFrom}
+use Rattle.agreement.specs.Holds.{sameWords}
 use Rattle.replay.specs.declared.parse.Sizes.{Sizes}
 use Rattle.replay.specs.Text.{has, partOf, fieldText, bareOf, decimalOf}
 
@@ -105,8 +105,8 @@ readField k line p =
 abbrev pub leftAt : ℕ → List ℕ → ℕ
 leftAt out line = cond (has (code "!") (fieldText 0 line)) out 0
 
--- whether planes hold that field's words, of which 65 are read, and zeros behind them
+-- whether planes hold that field's words, of which 65 are read, and zeros behind them, and no word of it is left out
 unfoldable pub areLeft : ℕ → List ℕ → Planes → Bool
 areLeft out line p =
     let q = readField (leftAt out line) line (lent (replicate 65 0) (replicate 65 0)) .planes in
-    holdsFrom 0 (p .value) (q .value) && holdsFrom 0 (p .unknown) (q .unknown)
+    sameWords (p .value) (q .value) && sameWords (p .unknown) (q .unknown)

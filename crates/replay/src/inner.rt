@@ -12,7 +12,7 @@ use crate::parse::sizes_of;
 use crate::parse::until;
 use crate::parse::word;
 use agreement::Field;
-use agreement::holds;
+use agreement::same_words;
 use libc::STDOUT_FILENO;
 use words::inner::least;
 ghost use mathlib.Core.Path.{_≡_};
@@ -125,10 +125,10 @@ pub fn are_left(line: &[u8], out: usize, value: &[u64], unknown: &[u64]) -> bool
     let mut v = [0u64; 65];
     let mut u = [0u64; 65];
     field(line, k, &mut v, &mut u);
-    if !holds(value, &v) {
+    if !same_words(value, &v) {
         return false;
     }
-    holds(unknown, &u)
+    same_words(unknown, &u)
 }
 
 // Writes a line if it differs, and else if it is to be shown; gives on whether it agrees.

@@ -1,15 +1,13 @@
 -- Two operands place by place.
 --     zero-apart, zero-unsure     two zeros neither mismatch nor leave the answer open
 --     one-apart, one-unsure       nor do two ones
---     over-extents                the places over the extents are those of the definition
---     narrow                      an extent is no wider than the operand
 --     answer-found                what a scan finds gives the answer
 --     found-at, found-none        what is found where a place mismatches and none below it does; where the scan ends without a mismatch
 --     equal-and                   equality is the and-reduction of the places, each by whether its bits are the same
 use mathlib.Core.Path.{_≡_, refl, sym, ap, ap₂, _∙_}
 use mathlib.Core.Bool.{Bool, true, false, not, _||_, cond}
 use mathlib.Core.List.{List, [], _∷_}
-use Prim.Native.Nat.{ℕ, zero, suc, _*_, _≤_, max}
+use Prim.Native.Nat.{ℕ, zero, suc, _*_, _≤_}
 use native.Mathlib.Omega.{arith}
 use lib.Dec.{eqb}
 use lib.ListN.{length, getD}
@@ -17,22 +15,17 @@ use Rattle.bit.specs.declared.LogicBit.{LogicBit}
 use Rattle.bit.specs.declared.LogicBit.the-variants.{Zero, One, X, Z}
 use Rattle.bit.specs.Rules.{same, notBit, xorBit}
 use Rattle.words.specs.Vector.{tabulate}
-use Rattle.words.specs.Planes.{lent}
-use Rattle.value.specs.declared.Header.{Header}
-use Rattle.value.specs.Checks.{Vector, vector}
+use Rattle.value.specs.Checks.{Vector}
 use Rattle.fold.specs.Fold.{anyOf, isUnknown, reduceAnd}
 use Rattle.fold.proofs.Scanned.{gather, some, Scanned}
 use Rattle.fold.proofs.Gather.{gather-cong}
 use Rattle.fold.proofs.Places.{any-tabulate}
 use Rattle.fold.proofs.Scan.{none-left, open-told}
-use Rattle.extension.specs.declared.Extent.{Extent}
-use Rattle.extension.specs.declared.Operator.{Operator}
-use Rattle.extension.specs.Extension.{largerWidth, operandAt, extentOf}
-use Rattle.extension.proofs.Extension.{extent-at, extent-narrow}
+use Rattle.extension.specs.Extension.{largerWidth, operandAt}
 use Rattle.scan.specs.declared.Comparison.{Comparison}
 use Rattle.scan.specs.declared.Comparison.the-variants.{Equal, CaseEqual, CasezEqual, CasexEqual, WildcardEqual}
 use Rattle.scan.specs.declared.Found.the-variants.{Mismatch, Unsure, Same}
-use Rattle.scan.specs.Compared.{operator, mismatch, unsure, onPair, decided, places, compared, lowest, found, foundBit, placesOver}
+use Rattle.scan.specs.Compared.{operator, mismatch, unsure, onPair, decided, compared, lowest, found, foundBit}
 
 -- what stands at each place beyond the width
 abbrev pub zeros : LogicBit × LogicBit
@@ -65,21 +58,6 @@ one-unsure CaseEqual = refl
 one-unsure CasezEqual = refl
 one-unsure CasexEqual = refl
 one-unsure WildcardEqual = refl
-
-pub over-extents : (op : Comparison) (a b : Header) (av au bv bu : List ℕ) (t : Operator) → t ≡ operator op → (x y : Extent)
-    → x ≡ extentOf t (vector a (lent av au)) b → y ≡ extentOf t (vector b (lent bv bu)) a → (w : ℕ) → w ≡ max (a .width) (b .width)
-    → placesOver w x (lent av au) y (lent bv bu) ≡ places op (vector a (lent av au)) (vector b (lent bv bu))
-over-extents op a b av au bv bu t e x y hx hy w hw =
-    ap₂ (λ (x y : Extent). placesOver w x (lent av au) y (lent bv bu))
-    (hx ∙ ap (λ (t : Operator). extentOf t (vector a (lent av au)) b) e)
-    (hy ∙ ap (λ (t : Operator). extentOf t (vector b (lent bv bu)) a) e)
-    ∙ (λ k. tabulate w (λ i. (extent-at (operator op) a b av au i k, extent-at (operator op) b a bv bu i k)))
-    ∙ ap
-    (λ (n : ℕ). tabulate n
-    (λ i. (operandAt (operator op) (vector a (lent av au)) b i, operandAt (operator op) (vector b (lent bv bu)) a i))) hw
-
-pub narrow : (t : Operator) (a b : Header) (v u : List ℕ) (x : Extent) → x ≡ extentOf t (vector a (lent v u)) b → x .width ≤ a .width
-narrow t a b v u x e = rw e (extent-narrow t (vector a (lent v u)) b)
 
 -- ---- what a scan finds
 

@@ -1,7 +1,10 @@
 -- `join::inner::join_planes`: the extents say each operand's bits, and are no wider than the operands.
+use mathlib.Core.Path.{ap, _∙_}
 use native.Mathlib.Omega.{arith}
-use Rattle.words.specs.Planes.{lent}
-use Rattle.join.proofs.Operands.{narrow, settled}
+use Rattle.words.specs.Planes.{lent, planesOf}
+use Rattle.extension.proofs.Extension.{extent-narrow, settled}
+use Rattle.lanes.specs.Lanes.{opBit}
+use Rattle.join.specs.Joined.{operator}
 use borrow.Author.Needs.{needs}
 use Rattle.join.proofs.inner.join_planes.Statement.{statement}
 use Rattle.join.proofs.inner.join_planes.Tie as tie
@@ -23,8 +26,8 @@ join-extents-requires c κs =
     let s = o .before .before .before .before .before .before .before in
     let a = s .args in
     let p = s .pre in
-    let l = narrow (o .operator .result) (a .a) (a .b) (lent (a .av .now) (a .au .now)) (x .extent .ensures) in
-    let r = narrow (o .operator .result) (a .b) (a .a) (lent (a .bv .now) (a .bu .now)) (y .extent2 .ensures) in (
+    let l = extent-narrow (o .operator .result) (a .a) (a .b) (lent (a .av .now) (a .au .now)) (x .extent .ensures) in
+    let r = extent-narrow (o .operator .result) (a .b) (a .a) (lent (a .bv .now) (a .bu .now)) (y .extent2 .ensures) in (
       (omega (arith, l, p .0 .0 .count), omega (arith, l, p .0 .1 .count)),
       (
         (omega (arith, r, p .1 .0 .0 .count), omega (arith, r, p .1 .0 .1 .count)),
@@ -46,7 +49,9 @@ returns c =
     let o = x .before in
     let s = o .before .before .before .before .before .before .before in
     let a = s .args in
-    settled (a .op) (a .a) (a .b) (a .av .now) (a .au .now) (a .bv .now) (a .bu .now) (o .operator .ensures) (x .extent .ensures) (y .extent2 .ensures) _ (s .pre .1 .1 .0) _ (g .join-extents .ensures)
+    g .join-extents .ensures
+    ∙ ap planesOf
+    (settled (opBit (a .op)) (operator (a .op)) (a .a) (a .b) (a .av .now) (a .au .now) (a .bv .now) (a .bu .now) (o .operator .ensures) (x .extent .ensures) (y .extent2 .ensures) _ (s .pre .1 .1 .0))
 
 pub join-planes-spec : {M : Type 1} → statement M
 join-planes-spec =

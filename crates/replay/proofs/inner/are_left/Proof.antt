@@ -19,11 +19,11 @@ slice-aggregate-field-2 c = search needs
 field-requires : tie.Need-field-requires
 field-requires c κs = search needs
 
-slice-aggregate-holds : tie.Need-slice-aggregate-holds
-slice-aggregate-holds c = search needs
+slice-aggregate-same-words : tie.Need-slice-aggregate-same-words
+slice-aggregate-same-words c = search needs
 
-holds-requires : tie.Need-holds-requires
-holds-requires c κs = search needs
+same-words-requires : tie.Need-same-words-requires
+same-words-requires c κs = search needs
 
 returns : tie.Need-returns
 returns c =
@@ -32,13 +32,13 @@ returns c =
     let k = d .before .before .before in
     let a = k .before .before .before .before .args in
     let q = compared (a .out) (a .line .now) (lent (a .value .now) (a .unknown .now)) _ _ _ _ (k .left-at .ensures) (d .field .ensures .0) in
-    sym (q ∙ rw (sym (h .holds .ensures) ∙ not-true _ (c .if1 .taken)))
+    sym (q ∙ rw (sym (h .same-words .ensures) ∙ not-true _ (c .if1 .taken)))
 
-slice-aggregate-holds-2 : tie.Need-slice-aggregate-holds-2
-slice-aggregate-holds-2 c = search needs
+slice-aggregate-same-words-2 : tie.Need-slice-aggregate-same-words-2
+slice-aggregate-same-words-2 c = search needs
 
-holds-requires-2 : tie.Need-holds-requires-2
-holds-requires-2 c κs = search needs
+same-words-requires-2 : tie.Need-same-words-requires-2
+same-words-requires-2 c κs = search needs
 
 returns-2 : tie.Need-returns-2
 returns-2 c =
@@ -47,7 +47,7 @@ returns-2 c =
     let k = d .before .before .before in
     let a = k .before .before .before .before .args in
     let q = compared (a .out) (a .line .now) (lent (a .value .now) (a .unknown .now)) _ _ _ _ (k .left-at .ensures) (d .field .ensures .0) in
-    sym (q ∙ rw (sym (h .holds .ensures) ∙ not-false _ (c .before .before .if1 .left)) (sym (c .holds2 .ensures)))
+    sym (q ∙ rw (sym (h .same-words .ensures) ∙ not-false _ (c .before .before .if1 .left)) (sym (c .same-words2 .ensures)))
 
 pub are-left-spec : {M : Type 1} → statement M
 are-left-spec =
@@ -57,9 +57,9 @@ are-left-spec =
     slice-aggregate-field
     slice-aggregate-field-2
     field-requires
-    slice-aggregate-holds
-    holds-requires
+    slice-aggregate-same-words
+    same-words-requires
     returns
-    slice-aggregate-holds-2
-    holds-requires-2
+    slice-aggregate-same-words-2
+    same-words-requires-2
     returns-2)

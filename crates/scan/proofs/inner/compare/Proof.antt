@@ -3,10 +3,12 @@ use mathlib.Core.Path.{_≡_, ap, _∙_}
 use Prim.Native.Nat.{ℕ, _≤_}
 use native.Mathlib.Omega.{arith}
 use borrow.Author.Needs.{needs}
+use Rattle.bit.specs.declared.LogicBit.{LogicBit}
 use Rattle.words.specs.Planes.{wordCount, lent}
 use Rattle.value.specs.Checks.{vector}
-use Rattle.scan.specs.Compared.{places, found, foundBit}
-use Rattle.scan.proofs.Places.{narrow, over-extents, answer-found}
+use Rattle.extension.proofs.Extension.{extent-narrow, settled}
+use Rattle.scan.specs.Compared.{operator, places, found, foundBit}
+use Rattle.scan.proofs.Places.{answer-found}
 use Rattle.scan.proofs.inner.compare.Statement.{statement}
 use Rattle.scan.proofs.inner.compare.Tie as tie
 
@@ -29,8 +31,8 @@ scan-extents-requires c κs =
     let s = o .before .before .before .before .before in
     let a = s .args in
     let p = s .pre in
-    let hx = narrow (o .operator .result) (a .a) (a .b) (a .av .now) (a .au .now) _ (y .before .extent .ensures) in
-    let hy = narrow (o .operator .result) (a .b) (a .a) (a .bv .now) (a .bu .now) _ (y .extent2 .ensures) in
+    let hx = extent-narrow (o .operator .result) (a .a) (a .b) (lent (a .av .now) (a .au .now)) (y .before .extent .ensures) in
+    let hy = extent-narrow (o .operator .result) (a .b) (a .a) (lent (a .bv .now) (a .bu .now)) (y .extent2 .ensures) in
     let long : (l w n : ℕ) → n ≤ w → l ≡ wordCount w → wordCount n ≤ l = λ l w n h e. omega (arith, h, e) in (
       ((long _ _ _ hx (p .0 .0 .count), long _ _ _ hx (p .0 .1 .count)), (long _ _ _ hy (p .1 .0 .count), long _ _ _ hy (p .1 .1 .count))),
       (omega (arith, hx, c .larger .ensures), omega (arith, hy, c .larger .ensures)),
@@ -46,7 +48,7 @@ returns c =
     let y = w .before in
     let o = y .before .before in
     let a = o .before .before .before .before .before .args in
-    let e = over-extents (a .op) (a .a) (a .b) (a .av .now) (a .au .now) (a .bv .now) (a .bu .now) _ (o .operator .ensures) _ _
+    let e = settled {A = LogicBit × LogicBit} (λ p q. (p, q)) (operator (a .op)) (a .a) (a .b) (a .av .now) (a .au .now) (a .bv .now) (a .bu .now) (o .operator .ensures)
     (y .before .extent .ensures) (y .extent2 .ensures) _ (w .larger .ensures) in
     c .found-bit .ensures ∙ ap foundBit (f .scan-extents .ensures ∙ ap (found (a .op)) e)
     ∙ answer-found (a .op) (places (a .op) (vector (a .a) (lent (a .av .now) (a .au .now))) (vector (a .b) (lent (a .bv .now) (a .bu .now))))
