@@ -28,8 +28,8 @@ abbrev pub joinedWord : Bitwise → Planes → Planes → ℕ → Word
 joinedWord op p q k =
     laneWord (opBit op) (wordBy (getD (p .value) k 0) (getD (p .unknown) k 0)) (wordBy (getD (q .value) k 0) (getD (q .unknown) k 0))
 
--- the rule at each place of two settled operands, each read by its extent, at width w (document 01, "Result vector": a fill is first stretched, the
--- shorter operand extended)
+-- the rule at each place of two settled operands, each read by its extent, at width w (document 01, "Result vector"; what is settled is told by
+-- `extentOf`)
 abbrev pub joinedOver : Bitwise → ℕ → Extent → Planes → Extent → Planes → List LogicBit
 joinedOver op w a p b q =
     tabulate w (λ i. opBit op (extentAt a p i) (extentAt b q i))

@@ -131,7 +131,7 @@ pub(crate) fn load(bits: &[u8], is_unknown: bool, plane: &mut [u64], n: usize)
     }
 }
 
-// What follows the letter of a vector's marks, the minus of a real or the mark of a refusal.
+// What follows the letter of a vector's marks or of a real, the minus of a real or the mark of a refusal.
 pub(crate) fn bare(s: &[u8]) -> &[u8]
     ensures { λ r. ⌜ now r ≡ bareOf (now (s .entry)) ⌝ }
 {
