@@ -1,7 +1,9 @@
 -- What the two tables of ops leave out, and what exactness rules out.
---     left-out       an op is left out exactly if it loses a known bit in some run, and if it is not exact in some step
+--     left-out       an op is left out exactly if it loses a known bit in some run, and if it is not exact in some step that is run, on comparable
+--                    operands if it is an equality
 --     signed-inexact, fill-inexact     equalities that are not exact since one unknown bit stands at several places
---     exact-fixes    two cells that are both exact have the same known bits: a module that gives x for everything is not exact
+--     exact-fixes    two cells that are both exact have the same known bits at the places that both have; with `step-exact`, a module that gives x
+--                    where these definitions give 0 or 1 is not exact
 use mathlib.Core.Path.{_≡_, refl, sym, _∙_, subst, ap₂}
 use mathlib.Core.Bool.{Bool, true, false, not, _&&_}
 use mathlib.Core.Logic.{inl, inr, _↔_, _≢_, Iff·symm, Iff·trans}

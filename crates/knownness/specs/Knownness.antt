@@ -46,7 +46,7 @@ keepsKnown LogicOr = true
 keepsKnown Select = true
 keepsKnown Insert = true
 
--- the ops whose result is known exactly where all completions agree
+-- the ops whose result is known exactly where all completions agree, an equality's where its operands are comparable
 abbrev pub isExact : Op → Bool
 isExact op = keepsKnown op
 

@@ -105,7 +105,7 @@ readField k line p =
 abbrev pub leftAt : ℕ → List ℕ → ℕ
 leftAt out line = cond (has (code "!") (fieldText 0 line)) out 0
 
--- whether planes hold that field's words, of which 65 are read, and zeros behind them, and no word of it is left out
+-- whether planes hold that field's first 65 words, with zeros behind the shorter; words of the field behind those are not read
 unfoldable pub areLeft : ℕ → List ℕ → Planes → Bool
 areLeft out line p =
     let q = readField (leftAt out line) line (lent (replicate 65 0) (replicate 65 0)) .planes in

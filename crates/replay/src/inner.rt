@@ -117,7 +117,8 @@ fn left_at(line: &[u8], out: usize) -> usize
     0
 }
 
-// Whether planes hold what the answer of a line leaves there: its bits or, where it is a refusal, those of field `out`.
+// Whether planes hold what the answer of a line leaves there: its bits or, where it is a refusal, those of field `out`. Of these 65 words are
+// read, and planes that are longer hold zeros behind them.
 pub fn are_left(line: &[u8], out: usize, value: &[u64], unknown: &[u64]) -> bool
     ensures { λ r. ⌜ r ≡ areLeft out (now (line .entry)) (lent (now (value .entry)) (now (unknown .entry))) ⌝ }
 {

@@ -1,9 +1,9 @@
 -- A case of demand 3: two runs of a list, on inputs of which some unknown bits are made known, in memories that differ in all but their lengths.
--- What demand 3 assumes can be met, and what it says of these runs is said here outright.
+-- What demand 3 assumes can be met, and of these runs the cells, a bit that is kept and the exact steps of the first are said outright.
 --     left, left-refined     the cells that the two runs leave
 --     kept-zero              a bit that is known stays
---     exact-step             each of the three steps is known exactly, the first, the last and the equality among them
---     text-case              the same of what `run` computes of their texts
+--     exact-step             each of the three steps of the first run is known exactly; the last is an equality
+--     text-case              demand 3 of what `run` computes of their texts
 use mathlib.Core.Path.{_≡_, refl, sym, subst}
 use mathlib.Core.Logic.{inl, inr}
 use mathlib.Core.Bool.{true, false}
