@@ -5,7 +5,7 @@ use mathlib.Core.Bool.{Bool, false, Bool·beq, cond, _&&_}
 use lib.Dec.{eqb}
 use Rattle.words.specs.declared.Word.{Word}
 use Rattle.value.specs.declared.Header.{Header}
-use Rattle.coded.specs.declared.HeaderResult.{HeaderResult}
+use Rattle.abi.specs.declared.HeaderResult.{HeaderResult}
 use Rattle.agreement.specs.declared.Field.{Field}
 
 -- a refusal by its number; where there is none, 0, no refusal and what else was compared

@@ -1,7 +1,7 @@
-// When the answer that a line of a table tells is what a call gave: a field of a line as it was read, compared with a bit, a vector's header or
-// planes.
-use coded::BitResult;
-use coded::HeaderResult;
+// When the answer that a line of a table tells is what a call gave: a field of a line as it was read, compared with a bit, a vector's
+// header or planes.
+use abi::BitResult;
+use abi::HeaderResult;
 use value::Header;
 use words::Word;
 ghost use mathlib.Core.Path.{_≡_};

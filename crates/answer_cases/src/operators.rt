@@ -1,7 +1,7 @@
 // The calls of operators whose answer is a bit, by their numbers in `replay`.
+use abi::BitResult;
 use agreement::Field;
 use agreement::is_bit;
-use coded::BitResult;
 use ffi_answers::vowherunga_case_eq;
 use ffi_answers::vowherunga_casex_eq;
 use ffi_answers::vowherunga_casez_eq;
@@ -13,9 +13,9 @@ use ffi_answers::vowherunga_reduce_and;
 use ffi_answers::vowherunga_reduce_or;
 use ffi_answers::vowherunga_reduce_xor;
 use ffi_answers::vowherunga_wildcard_eq;
-use replay::inner::call_of;
-use replay::inner::field;
-use replay::inner::plain;
+use replay::unchecked::call_of;
+use replay::unchecked::field;
+use replay::unchecked::plain;
 use value::Header;
 
 // An answer bit of one operand.

@@ -1,19 +1,19 @@
 // The calls on bits and words of a vector that is lent, by their numbers in `replay`.
+use abi::BitResult;
+use abi::WordResult;
 use agreement::Field;
 use agreement::answers;
 use agreement::is_bit;
-use coded::BitResult;
-use coded::WordResult;
 use ffi::bits::vowherunga_extract64;
 use ffi::bits::vowherunga_get;
 use ffi::bits::vowherunga_mask_top;
 use ffi::bits::vowherunga_set;
 use ffi::bits::vowherunga_splice64;
 use ffi::vectors::vowherunga_splice_bits64;
-use replay::inner::are_left;
-use replay::inner::call_of;
-use replay::inner::field;
-use replay::inner::plain;
+use replay::unchecked::are_left;
+use replay::unchecked::call_of;
+use replay::unchecked::field;
+use replay::unchecked::plain;
 use value::Header;
 use words::Word;
 

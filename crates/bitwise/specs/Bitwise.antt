@@ -1,16 +1,16 @@
 -- Document 01, "Result vector": and, or, xor and merge of two vectors, not of one (IEEE 1800-2017, 11.4.8 and 11.4.11).
-use mathlib.Core.Bool.{false}
 use Rattle.refusal.specs.Outcome.{Outcome, orRefuse}
 use Rattle.words.specs.Planes.{Planes}
 use Rattle.value.specs.declared.Header.{Header}
-use Rattle.value.specs.Checks.{vector, checkVector, written}
-use Rattle.join.specs.Joined.{inverted}
--- `bitwise_and`, `bitwise_or`, `bitwise_xor`, `merge_unknown`
-pub use Rattle.vectors.specs.Vectors.{joinVectors}
+use Rattle.value.specs.Checks.{vector, checkVector, checkPair, written}
+use Rattle.lanes.specs.declared.Bitwise.{Bitwise}
+use Rattle.bitwise_words.specs.Joined.{joined, inverted, resultHeader, notHeader}
 
--- width and sign kept, no fill
-abbrev pub notHeader : Header → Header
-notHeader a = record { width = a .width; «is_signed» = a .«is_signed»; «is_fill» = false }
+-- `bitwise_and`, `bitwise_or`, `bitwise_xor`, `merge_unknown`: 1 to 4 for the left operand, then for the right, then 5
+abbrev pub joinVectors : Bitwise → Header → Planes → Header → Planes → Planes → Outcome Header Planes
+joinVectors op a p b q out =
+    orRefuse (checkPair a p b q) out
+    (written (record { header = resultHeader op a b; bits = joined op (vector a p) (vector b q) }) out)
 
 -- `bitwise_not`
 abbrev pub bitwiseNot : Header → Planes → Planes → Outcome Header Planes

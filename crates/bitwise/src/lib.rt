@@ -1,17 +1,53 @@
 // And, or, xor, merge and not, into lent planes.
+use bitwise_words::result_header;
+use bitwise_words::unchecked::join_planes;
+use bitwise_words::unchecked::not_planes;
 use lanes::Bitwise;
 use refusal::Verdict;
 use value::Header;
 use value::VectorAnswer;
 use value::check_output;
 use value::check_vector;
-use vectors::join_vectors;
 ghost use mathlib.Core.Path.{_≡_};
 ghost use Rattle.refusal.specs.Outcome.{outcome};
-ghost use Rattle.words.specs.Planes.{lent};
-ghost use Rattle.value.specs.Checks.{vectorAnswer};
+ghost use Rattle.words.specs.Planes.{lentBy};
+ghost use Rattle.value.specs.Answers.{vectorAnswer};
 ghost use Rattle.lanes.specs.declared.Bitwise.the-variants.{And, Or, Xor, Merge};
 ghost use Rattle.bitwise.specs.Bitwise.{joinVectors, bitwiseNot};
+
+// The operator on two vectors of any widths, into planes of the larger width.
+fn join_vectors(
+    op: Bitwise,
+    a: Header,
+    av: &[u64],
+    au: &[u64],
+    b: Header,
+    bv: &[u64],
+    bu: &[u64],
+    ov: &mut [u64],
+    ou: &mut [u64],
+) -> VectorAnswer
+    ensures { λ r. ⌜ outcome (vectorAnswer r) (lentBy (ov .exit) (ou .exit))
+        ≡ joinVectors op a (lentBy (av .entry) (au .entry)) b (lentBy (bv .entry) (bu .entry)) (lentBy (ov .entry) (ou .entry)) ⌝ }
+{
+    match check_vector(a, av, au) {
+        Verdict::Refused(r) => VectorAnswer::Refused(r),
+        Verdict::Accepted => match check_vector(b, bv, bu) {
+            Verdict::Refused(r) => VectorAnswer::Refused(r),
+            Verdict::Accepted => {
+                let h = result_header(op, a, b);
+                let width = h.width;
+                match check_output(width, ov, ou) {
+                    Verdict::Refused(r) => VectorAnswer::Refused(r),
+                    Verdict::Accepted => {
+                        join_planes(op, a, av, au, b, bv, bu, width, ov, ou);
+                        VectorAnswer::Vector(h)
+                    }
+                }
+            }
+        },
+    }
+}
 
 // 0 at a place where either has 0, 1 where both have 1, else x.
 pub fn bitwise_and(
@@ -24,7 +60,8 @@ pub fn bitwise_and(
     ov: &mut [u64],
     ou: &mut [u64],
 ) -> VectorAnswer
-    ensures { λ r. ⌜ outcome (vectorAnswer r) (lent (now (ov .exit)) (now (ou .exit))) ≡ joinVectors And a (lent (now (av .entry)) (now (au .entry))) b (lent (now (bv .entry)) (now (bu .entry))) (lent (now (ov .entry)) (now (ou .entry))) ⌝ }
+    ensures { λ r. ⌜ outcome (vectorAnswer r) (lentBy (ov .exit) (ou .exit))
+        ≡ joinVectors And a (lentBy (av .entry) (au .entry)) b (lentBy (bv .entry) (bu .entry)) (lentBy (ov .entry) (ou .entry)) ⌝ }
 {
     join_vectors(Bitwise::And, a, av, au, b, bv, bu, ov, ou)
 }
@@ -40,7 +77,8 @@ pub fn bitwise_or(
     ov: &mut [u64],
     ou: &mut [u64],
 ) -> VectorAnswer
-    ensures { λ r. ⌜ outcome (vectorAnswer r) (lent (now (ov .exit)) (now (ou .exit))) ≡ joinVectors Or a (lent (now (av .entry)) (now (au .entry))) b (lent (now (bv .entry)) (now (bu .entry))) (lent (now (ov .entry)) (now (ou .entry))) ⌝ }
+    ensures { λ r. ⌜ outcome (vectorAnswer r) (lentBy (ov .exit) (ou .exit))
+        ≡ joinVectors Or a (lentBy (av .entry) (au .entry)) b (lentBy (bv .entry) (bu .entry)) (lentBy (ov .entry) (ou .entry)) ⌝ }
 {
     join_vectors(Bitwise::Or, a, av, au, b, bv, bu, ov, ou)
 }
@@ -56,7 +94,8 @@ pub fn bitwise_xor(
     ov: &mut [u64],
     ou: &mut [u64],
 ) -> VectorAnswer
-    ensures { λ r. ⌜ outcome (vectorAnswer r) (lent (now (ov .exit)) (now (ou .exit))) ≡ joinVectors Xor a (lent (now (av .entry)) (now (au .entry))) b (lent (now (bv .entry)) (now (bu .entry))) (lent (now (ov .entry)) (now (ou .entry))) ⌝ }
+    ensures { λ r. ⌜ outcome (vectorAnswer r) (lentBy (ov .exit) (ou .exit))
+        ≡ joinVectors Xor a (lentBy (av .entry) (au .entry)) b (lentBy (bv .entry) (bu .entry)) (lentBy (ov .entry) (ou .entry)) ⌝ }
 {
     join_vectors(Bitwise::Xor, a, av, au, b, bv, bu, ov, ou)
 }
@@ -72,7 +111,8 @@ pub fn merge_unknown(
     ov: &mut [u64],
     ou: &mut [u64],
 ) -> VectorAnswer
-    ensures { λ r. ⌜ outcome (vectorAnswer r) (lent (now (ov .exit)) (now (ou .exit))) ≡ joinVectors Merge a (lent (now (av .entry)) (now (au .entry))) b (lent (now (bv .entry)) (now (bu .entry))) (lent (now (ov .entry)) (now (ou .entry))) ⌝ }
+    ensures { λ r. ⌜ outcome (vectorAnswer r) (lentBy (ov .exit) (ou .exit))
+        ≡ joinVectors Merge a (lentBy (av .entry) (au .entry)) b (lentBy (bv .entry) (bu .entry)) (lentBy (ov .entry) (ou .entry)) ⌝ }
 {
     join_vectors(Bitwise::Merge, a, av, au, b, bv, bu, ov, ou)
 }
@@ -85,7 +125,8 @@ pub fn bitwise_not(
     ov: &mut [u64],
     ou: &mut [u64],
 ) -> VectorAnswer
-    ensures { λ r. ⌜ outcome (vectorAnswer r) (lent (now (ov .exit)) (now (ou .exit))) ≡ bitwiseNot a (lent (now (av .entry)) (now (au .entry))) (lent (now (ov .entry)) (now (ou .entry))) ⌝ }
+    ensures { λ r. ⌜ outcome (vectorAnswer r) (lentBy (ov .exit) (ou .exit))
+        ≡ bitwiseNot a (lentBy (av .entry) (au .entry)) (lentBy (ov .entry) (ou .entry)) ⌝ }
 {
     let width = a.width;
     match check_vector(a, av, au) {
@@ -93,7 +134,7 @@ pub fn bitwise_not(
         Verdict::Accepted => match check_output(width, ov, ou) {
             Verdict::Refused(r) => VectorAnswer::Refused(r),
             Verdict::Accepted => {
-                join::inner::not_planes(width, av, au, ov, ou);
+                not_planes(width, av, au, ov, ou);
                 VectorAnswer::Vector(Header {
                     width: width,
                     is_signed: a.is_signed,

@@ -10,9 +10,11 @@ use Rattle.refusal.specs.Outcome.Answer.{given, refused}
 use Rattle.words.specs.Planes.{wordCount, Planes, lent}
 use Rattle.value.specs.declared.Header.{Header}
 use Rattle.value.specs.Checks.{Vector, vector, checkVector}
+use Rattle.ops.specs.declared.Op.{Op}
 use Rattle.ops.specs.declared.Step.{Step}
-use Rattle.ops.specs.Ops.{operands}
+use Rattle.ops.specs.Ops.{operands, opVector}
 use Rattle.cells.specs.declared.Cell.{Cell}
+use Rattle.cells.specs.declared.Operands.{Operands}
 
 -- ---- what a cell holds
 
@@ -60,6 +62,10 @@ abbrev pub putPlanes : ℕ → Planes → Planes → Planes
 putPlanes k p a = lent (putWords k (p .value) (a .value)) (putWords k (p .unknown) (a .unknown))
 
 -- ---- the cells that a step names
+
+-- the op on them, in operand order; insert takes its position
+abbrev pub opCells : Op → Operands → ℕ → Planes → Vector
+opCells op o pos a = opVector op (cellVector a (o .a)) (cellVector a (o .b)) (cellVector a (o .c)) pos
 
 -- an operand that the op does not use is ignored: the number of a stands for it
 abbrev pub named : Step → Step

@@ -1,7 +1,7 @@
 // Cells: vectors whose words lie one behind the other in two lent arenas. What is read of them, and what a step on them is worked out by.
 use value::Header;
 
-pub mod inner;
+pub mod unchecked;
 
 // Where a vector's words begin in both arenas, and its header.
 pub struct Cell {

@@ -11,9 +11,9 @@ use Rattle.value.specs.declared.Header.{Header}
 use Rattle.value.specs.declared.Operand.{Operand}
 use Rattle.value.specs.declared.Operand.the-variants as operand
 use Rattle.value.specs.Checks.{vector, checkVector, checkOperand}
-use Rattle.scan.specs.declared.Comparison.the-variants.{Equal}
-use Rattle.scan.specs.Compared.{compared}
-use Rattle.numeric.specs.Numeric.{realEquality}
+use Rattle.compare_words.specs.declared.Comparison.the-variants.{Equal}
+use Rattle.compare_words.specs.Compared.{compared}
+use Rattle.real_equal.specs.Numeric.{realEquality}
 use Rattle.compare.specs.Compare.{comparison, isEqual}
 
 in-turn : (x y : Answer Unit) (z : Answer LogicBit) → after (after x y) z ≡ after x (after y z)

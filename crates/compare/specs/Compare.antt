@@ -1,5 +1,5 @@
 -- Document 01, "Answer bit": the entries of equality (IEEE 1800-2017, 11.4.5), case, casez and casex equality (12.5) and wildcard equality
--- (11.4.6), over the comparisons of `scan`.
+-- (11.4.6), over the comparisons of `compare_words`.
 use Rattle.bit.specs.declared.LogicBit.{LogicBit}
 use Rattle.refusal.specs.Outcome.{Answer, after}
 use Rattle.refusal.specs.Outcome.Answer.{given}
@@ -8,10 +8,10 @@ use Rattle.value.specs.declared.Header.{Header}
 use Rattle.value.specs.declared.Operand.{Operand}
 use Rattle.value.specs.declared.Operand.the-variants as operand
 use Rattle.value.specs.Checks.{vector, checkPair, checkOperand}
-use Rattle.numeric.specs.Numeric.{equalReals}
-use Rattle.scan.specs.declared.Comparison.{Comparison}
-use Rattle.scan.specs.declared.Comparison.the-variants.{Equal}
-use Rattle.scan.specs.Compared.{compared}
+use Rattle.real_equal.specs.Numeric.{equalReals}
+use Rattle.compare_words.specs.declared.Comparison.{Comparison}
+use Rattle.compare_words.specs.declared.Comparison.the-variants.{Equal}
+use Rattle.compare_words.specs.Compared.{compared}
 
 -- `case_eq`, `casez_eq`, `casex_eq`, `wildcard_eq`: 1 to 4 for the left operand, then for the right
 abbrev pub comparison : Comparison → Header → Planes → Header → Planes → Answer LogicBit

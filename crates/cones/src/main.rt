@@ -1,5 +1,6 @@
-// Runs the step list on standard input and writes what the run says. Where standard input cannot be read to its end, nothing is run and standard
-// output stays empty; where standard output does not take all that is written, the rest is lost. A line on standard error tells either.
+// Runs the step list on standard input and writes what the run says. Where standard input cannot be read to its end, nothing is run and
+// standard output stays empty; where standard output does not take all that is written, the rest is lost. A line on standard error tells
+// either.
 use libc::STDERR_FILENO;
 use libc::STDOUT_FILENO;
 use stdin::read_all;

@@ -1,14 +1,14 @@
 // The calls that make a vector, by their numbers in `replay`.
+use abi::HeaderResult;
 use agreement::is_vector;
-use coded::HeaderResult;
 use ffi::bits::vowherunga_from_u64;
 use ffi::bits::vowherunga_new;
 use ffi::bits::vowherunga_zero;
 use ffi::vectors::vowherunga_from_real_wrapped;
-use replay::inner::are_left;
-use replay::inner::call_of;
-use replay::inner::field;
-use replay::inner::plain;
+use replay::unchecked::are_left;
+use replay::unchecked::call_of;
+use replay::unchecked::field;
+use replay::unchecked::plain;
 
 fn make(
     call: usize,

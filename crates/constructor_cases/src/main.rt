@@ -1,15 +1,16 @@
-// Calls that make a vector, worked by the exports of `ffi` and compared; the crate `replay` tells how a table is written.
-// The table `worked` has cases of document 01 and of each edge; each call that agrees is written, and the file `stdout` holds them. The table
+// Calls that make a vector, worked by the exports of `ffi` and compared; the crate `replay` tells how a table is written. The table
+// `worked` has cases of document 01 and of each edge; each call that agrees is written, and the file `stdout` holds them. The table
 // `answers` has the reference's answers to drawn inputs, of which those that agree are counted; at the repository's root it is made by
 //
-//     cargo run --offline --manifest-path rust/Cargo.toml --features reference --bin answers constructor_cases >crates/constructor_cases/data/answers
+//     cargo run --offline --manifest-path rust/Cargo.toml --features reference \
+//         --bin answers constructor_cases >crates/constructor_cases/data/answers
 mod constructors;
 
 use constructors::agrees;
-use replay::inner::line_end;
-use replay::inner::report;
-use replay::inner::table;
-use replay::inner::total;
+use replay::unchecked::line_end;
+use replay::unchecked::report;
+use replay::unchecked::table;
+use replay::unchecked::total;
 
 // Works the lines, and counts those that agree.
 fn count(s: &[u8], show: bool) -> u64 {

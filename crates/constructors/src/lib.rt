@@ -1,7 +1,7 @@
 // The constructors of document 01: vectors of one bit throughout and of a number, at a clamped width.
 use bit::LogicBit;
-use planecheck::MAX_WIDTH;
 use refusal::Verdict;
+use value::MAX_WIDTH;
 use value::VectorAnswer;
 use value::check_output;
 use value::plain_header;
@@ -10,8 +10,8 @@ ghost use Prim.Native.Nat.{_≤_};
 ghost use mathlib.Core.List.{[], _∷_};
 ghost use lib.ListN.{getD};
 ghost use Rattle.refusal.specs.Outcome.{outcome};
-ghost use Rattle.words.specs.Planes.{fromPlanes, lent};
-ghost use Rattle.value.specs.Checks.{vectorAnswer};
+ghost use Rattle.words.specs.Planes.{fromPlanes, lentBy};
+ghost use Rattle.value.specs.Answers.{vectorAnswer};
 ghost use Rattle.constructors.specs.Constructors.{clamped, constructed, newVector, zeroVector, fromU64};
 
 // A width above the widest vector's becomes that.
@@ -31,7 +31,9 @@ fn construct(
     beyond: LogicBit,
 ) -> VectorAnswer
     requires { ⌜ count ≤ 64 ⌝ }
-    ensures { λ r. ⌜ outcome (vectorAnswer r) (lent (now (value .exit)) (now (unknown .exit))) ≡ constructed width (λ i. getD (fromPlanes count (val ∷ []) (0 ∷ [])) i beyond) (lent (now (value .entry)) (now (unknown .entry))) ⌝ }
+    ensures { λ r. ⌜ outcome (vectorAnswer r) (lentBy (value .exit) (unknown .exit))
+        ≡ constructed width (λ i. getD (fromPlanes count (val ∷ []) (0 ∷ [])) i beyond)
+        (lentBy (value .entry) (unknown .entry)) ⌝ }
 {
     let w = cap_width(width);
     match check_output(w, value, unknown) {
@@ -39,7 +41,7 @@ fn construct(
         Verdict::Accepted => {
             let low = [val];
             let none = [0u64];
-            words::inner::extend_into(w, value, unknown, &low, &none, count, beyond);
+            words::unchecked::extend_into(w, value, unknown, &low, &none, count, beyond);
             VectorAnswer::Vector(plain_header(w))
         }
     }
@@ -47,21 +49,24 @@ fn construct(
 
 // All x, at a clamped width.
 pub fn new(width: u32, value: &mut [u64], unknown: &mut [u64]) -> VectorAnswer
-    ensures { λ r. ⌜ outcome (vectorAnswer r) (lent (now (value .exit)) (now (unknown .exit))) ≡ newVector width (lent (now (value .entry)) (now (unknown .entry))) ⌝ }
+    ensures { λ r. ⌜ outcome (vectorAnswer r) (lentBy (value .exit) (unknown .exit))
+        ≡ newVector width (lentBy (value .entry) (unknown .entry)) ⌝ }
 {
     construct(width, value, unknown, 0, 0, LogicBit::X)
 }
 
 // All 0, at a clamped width.
 pub fn zero(width: u32, value: &mut [u64], unknown: &mut [u64]) -> VectorAnswer
-    ensures { λ r. ⌜ outcome (vectorAnswer r) (lent (now (value .exit)) (now (unknown .exit))) ≡ zeroVector width (lent (now (value .entry)) (now (unknown .entry))) ⌝ }
+    ensures { λ r. ⌜ outcome (vectorAnswer r) (lentBy (value .exit) (unknown .exit))
+        ≡ zeroVector width (lentBy (value .entry) (unknown .entry)) ⌝ }
 {
     construct(width, value, unknown, 0, 0, LogicBit::Zero)
 }
 
 // The bits of a number, at a clamped width.
 pub fn from_u64(val: u64, width: u32, value: &mut [u64], unknown: &mut [u64]) -> VectorAnswer
-    ensures { λ r. ⌜ outcome (vectorAnswer r) (lent (now (value .exit)) (now (unknown .exit))) ≡ fromU64 val width (lent (now (value .entry)) (now (unknown .entry))) ⌝ }
+    ensures { λ r. ⌜ outcome (vectorAnswer r) (lentBy (value .exit) (unknown .exit))
+        ≡ fromU64 val width (lentBy (value .entry) (unknown .entry)) ⌝ }
 {
     construct(width, value, unknown, val, 64, LogicBit::Zero)
 }

@@ -1,11 +1,11 @@
-// How an operator of two operands reads each of them: extended to the larger width, a fill stretched or not. Which operator asks for what is
-// told by two tables, and nowhere else.
+// How an operator of two operands reads each of them: extended to the larger width, a fill stretched or not. Which operator asks for what
+// is told by two tables, and nowhere else.
 use bit::LogicBit;
 ghost use mathlib.Core.Path.{_≡_};
 ghost use Prim.Native.Nat.{max};
 ghost use Rattle.extension.specs.Extension as table;
 
-pub mod inner;
+pub mod unchecked;
 
 // Operators that take two operands side by side.
 pub enum Operator {

@@ -1,17 +1,17 @@
 // The operators whose result is a vector.
-use coded::BitResult;
-use coded::HeaderResult;
-use coded::change_result;
-use coded::header_result;
+use abi::BitResult;
+use abi::HeaderResult;
+use abi::change_result;
+use abi::header_result;
 use value::Header;
 use words::Word;
 ghost use mathlib.Core.Path.{_≡_};
-ghost use Rattle.words.specs.Planes.{lent};
+ghost use Rattle.words.specs.Planes.{lentBy};
 ghost use Rattle.lanes.specs.declared.Bitwise.the-variants.{And, Or, Xor, Merge};
 ghost use Rattle.bitwise.specs.Bitwise.{joinVectors, bitwiseNot};
 ghost use Rattle.insert.specs.Insert.{insertBits};
 ghost use Rattle.real.specs.Round.{fromReal};
-ghost use Rattle.coded.specs.Coded.{codedHeader, codedChange, coded, codedOutcome};
+ghost use Rattle.abi.specs.Coded.{codedHeader, codedChange, coded, codedOutcome};
 
 // `bitwise::bitwise_and`
 #[no_mangle]
@@ -25,7 +25,9 @@ pub extern "C" fn vowherunga_bitwise_and(
     ov: &mut [u64],
     ou: &mut [u64],
 ) -> HeaderResult
-    ensures { λ r. ⌜ coded r (lent (now (ov .exit)) (now (ou .exit))) ≡ codedOutcome codedHeader (joinVectors And a (lent (now (av .entry)) (now (au .entry))) b (lent (now (bv .entry)) (now (bu .entry))) (lent (now (ov .entry)) (now (ou .entry)))) ⌝ }
+    ensures { λ r. ⌜ coded r (lentBy (ov .exit) (ou .exit))
+        ≡ codedOutcome codedHeader
+        (joinVectors And a (lentBy (av .entry) (au .entry)) b (lentBy (bv .entry) (bu .entry)) (lentBy (ov .entry) (ou .entry))) ⌝ }
 {
     header_result(bitwise::bitwise_and(a, av, au, b, bv, bu, ov, ou))
 }
@@ -42,7 +44,9 @@ pub extern "C" fn vowherunga_bitwise_or(
     ov: &mut [u64],
     ou: &mut [u64],
 ) -> HeaderResult
-    ensures { λ r. ⌜ coded r (lent (now (ov .exit)) (now (ou .exit))) ≡ codedOutcome codedHeader (joinVectors Or a (lent (now (av .entry)) (now (au .entry))) b (lent (now (bv .entry)) (now (bu .entry))) (lent (now (ov .entry)) (now (ou .entry)))) ⌝ }
+    ensures { λ r. ⌜ coded r (lentBy (ov .exit) (ou .exit))
+        ≡ codedOutcome codedHeader
+        (joinVectors Or a (lentBy (av .entry) (au .entry)) b (lentBy (bv .entry) (bu .entry)) (lentBy (ov .entry) (ou .entry))) ⌝ }
 {
     header_result(bitwise::bitwise_or(a, av, au, b, bv, bu, ov, ou))
 }
@@ -59,7 +63,9 @@ pub extern "C" fn vowherunga_bitwise_xor(
     ov: &mut [u64],
     ou: &mut [u64],
 ) -> HeaderResult
-    ensures { λ r. ⌜ coded r (lent (now (ov .exit)) (now (ou .exit))) ≡ codedOutcome codedHeader (joinVectors Xor a (lent (now (av .entry)) (now (au .entry))) b (lent (now (bv .entry)) (now (bu .entry))) (lent (now (ov .entry)) (now (ou .entry)))) ⌝ }
+    ensures { λ r. ⌜ coded r (lentBy (ov .exit) (ou .exit))
+        ≡ codedOutcome codedHeader
+        (joinVectors Xor a (lentBy (av .entry) (au .entry)) b (lentBy (bv .entry) (bu .entry)) (lentBy (ov .entry) (ou .entry))) ⌝ }
 {
     header_result(bitwise::bitwise_xor(a, av, au, b, bv, bu, ov, ou))
 }
@@ -76,7 +82,9 @@ pub extern "C" fn vowherunga_merge_unknown(
     ov: &mut [u64],
     ou: &mut [u64],
 ) -> HeaderResult
-    ensures { λ r. ⌜ coded r (lent (now (ov .exit)) (now (ou .exit))) ≡ codedOutcome codedHeader (joinVectors Merge a (lent (now (av .entry)) (now (au .entry))) b (lent (now (bv .entry)) (now (bu .entry))) (lent (now (ov .entry)) (now (ou .entry)))) ⌝ }
+    ensures { λ r. ⌜ coded r (lentBy (ov .exit) (ou .exit))
+        ≡ codedOutcome codedHeader
+        (joinVectors Merge a (lentBy (av .entry) (au .entry)) b (lentBy (bv .entry) (bu .entry)) (lentBy (ov .entry) (ou .entry))) ⌝ }
 {
     header_result(bitwise::merge_unknown(a, av, au, b, bv, bu, ov, ou))
 }
@@ -90,7 +98,8 @@ pub extern "C" fn vowherunga_bitwise_not(
     ov: &mut [u64],
     ou: &mut [u64],
 ) -> HeaderResult
-    ensures { λ r. ⌜ coded r (lent (now (ov .exit)) (now (ou .exit))) ≡ codedOutcome codedHeader (bitwiseNot a (lent (now (av .entry)) (now (au .entry))) (lent (now (ov .entry)) (now (ou .entry)))) ⌝ }
+    ensures { λ r. ⌜ coded r (lentBy (ov .exit) (ou .exit))
+        ≡ codedOutcome codedHeader (bitwiseNot a (lentBy (av .entry) (au .entry)) (lentBy (ov .entry) (ou .entry))) ⌝ }
 {
     header_result(bitwise::bitwise_not(a, av, au, ov, ou))
 }
@@ -106,7 +115,9 @@ pub extern "C" fn vowherunga_splice_bits64(
     bits_unknown: u64,
     n: usize,
 ) -> BitResult
-    ensures { λ r. ⌜ coded r (lent (now (value .exit)) (now (unknown .exit))) ≡ codedOutcome codedChange (insertBits a (lent (now (value .entry)) (now (unknown .entry))) pos (record { value = «bits_value»; unknown = «bits_unknown» }) n) ⌝ }
+    ensures { λ r. ⌜ coded r (lentBy (value .exit) (unknown .exit))
+        ≡ codedOutcome codedChange
+        (insertBits a (lentBy (value .entry) (unknown .entry)) pos (record { value = «bits_value»; unknown = «bits_unknown» }) n) ⌝ }
 {
     let bits = Word {
         value: bits_value,
@@ -123,7 +134,8 @@ pub extern "C" fn vowherunga_from_real_wrapped(
     value: &mut [u64],
     unknown: &mut [u64],
 ) -> HeaderResult
-    ensures { λ r. ⌜ coded r (lent (now (value .exit)) (now (unknown .exit))) ≡ codedOutcome codedHeader (fromReal f width (lent (now (value .entry)) (now (unknown .entry)))) ⌝ }
+    ensures { λ r. ⌜ coded r (lentBy (value .exit) (unknown .exit))
+        ≡ codedOutcome codedHeader (fromReal f width (lentBy (value .entry) (unknown .entry))) ⌝ }
 {
     header_result(real::from_real_wrapped(f, width, value, unknown))
 }

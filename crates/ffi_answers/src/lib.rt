@@ -1,26 +1,26 @@
-// The operators whose answer is a bit, for C and Rust: the answer is the bit's code, or a refusal. Each export asks nothing of its caller and
-// does nothing but call its entry.
-use coded::BitResult;
-use coded::bit_result;
-use coded::operand;
-use coded::truth_result;
-use scan::Comparison;
+// The operators whose answer is a bit, for C and Rust: the answer is the bit's code, or a refusal. Each export asks nothing of its caller
+// and does nothing but call its entry.
+use abi::BitResult;
+use abi::bit_result;
+use abi::operand;
+use abi::truth_result;
+use compare_words::Comparison;
 use value::Header;
 ghost use mathlib.Core.Path.{_≡_};
-ghost use Rattle.words.specs.Planes.{lent};
+ghost use Rattle.words.specs.Planes.{lentBy};
 ghost use Rattle.value.specs.declared.Operand.the-variants.{Vector};
-ghost use Rattle.fold.specs.Fold.{reduceAnd, reduceOr, reduceXor};
+ghost use Rattle.reduce_words.specs.Fold.{reduceAnd, reduceOr, reduceXor};
 ghost use Rattle.truth.specs.Truth.{isNonzero};
 ghost use Rattle.reduce.specs.Reduce.{reduction};
-ghost use Rattle.logic.specs.Logic.{logicAnd, logicOr};
-ghost use Rattle.scan.specs.declared.Comparison.the-variants.{CaseEqual, CasezEqual, CasexEqual, WildcardEqual};
+ghost use Rattle.truth.specs.Logic.{logicAnd, logicOr};
+ghost use Rattle.compare_words.specs.declared.Comparison.the-variants.{CaseEqual, CasezEqual, CasexEqual, WildcardEqual};
 ghost use Rattle.compare.specs.Compare.{comparison, isEqual};
-ghost use Rattle.coded.specs.Coded.{codedBit, codedTruth, operandOf};
+ghost use Rattle.abi.specs.Coded.{codedBit, codedTruth, operandOf};
 
 // `reduce::reduce_and`
 #[no_mangle]
 pub extern "C" fn vowherunga_reduce_and(a: Header, value: &[u64], unknown: &[u64]) -> BitResult
-    ensures { λ r. ⌜ r ≡ codedBit (reduction reduceAnd a (lent (now (value .entry)) (now (unknown .entry)))) ⌝ }
+    ensures { λ r. ⌜ r ≡ codedBit (reduction reduceAnd a (lentBy (value .entry) (unknown .entry))) ⌝ }
 {
     bit_result(reduce::reduce_and(a, value, unknown))
 }
@@ -28,7 +28,7 @@ pub extern "C" fn vowherunga_reduce_and(a: Header, value: &[u64], unknown: &[u64
 // `reduce::reduce_or`
 #[no_mangle]
 pub extern "C" fn vowherunga_reduce_or(a: Header, value: &[u64], unknown: &[u64]) -> BitResult
-    ensures { λ r. ⌜ r ≡ codedBit (reduction reduceOr a (lent (now (value .entry)) (now (unknown .entry)))) ⌝ }
+    ensures { λ r. ⌜ r ≡ codedBit (reduction reduceOr a (lentBy (value .entry) (unknown .entry))) ⌝ }
 {
     bit_result(reduce::reduce_or(a, value, unknown))
 }
@@ -36,7 +36,7 @@ pub extern "C" fn vowherunga_reduce_or(a: Header, value: &[u64], unknown: &[u64]
 // `reduce::reduce_xor`
 #[no_mangle]
 pub extern "C" fn vowherunga_reduce_xor(a: Header, value: &[u64], unknown: &[u64]) -> BitResult
-    ensures { λ r. ⌜ r ≡ codedBit (reduction reduceXor a (lent (now (value .entry)) (now (unknown .entry)))) ⌝ }
+    ensures { λ r. ⌜ r ≡ codedBit (reduction reduceXor a (lentBy (value .entry) (unknown .entry))) ⌝ }
 {
     bit_result(reduce::reduce_xor(a, value, unknown))
 }
@@ -50,13 +50,14 @@ pub extern "C" fn vowherunga_is_nonzero(
     value: &[u64],
     unknown: &[u64],
 ) -> BitResult
-    ensures { λ r. ⌜ r ≡ codedTruth (isNonzero (operandOf «a_is_real» a «a_real») (lent (now (value .entry)) (now (unknown .entry)))) ⌝ }
+    ensures { λ r. ⌜ r
+        ≡ codedTruth (isNonzero (operandOf «a_is_real» a «a_real») (lentBy (value .entry) (unknown .entry))) ⌝ }
 {
     let o = operand(a_is_real, a, a_real);
     truth_result(truth::is_nonzero(o, value, unknown))
 }
 
-// `logic::logic_and`
+// `truth::logic_and`
 #[no_mangle]
 pub extern "C" fn vowherunga_logic_and(
     a_is_real: bool,
@@ -70,14 +71,17 @@ pub extern "C" fn vowherunga_logic_and(
     bv: &[u64],
     bu: &[u64],
 ) -> BitResult
-    ensures { λ r. ⌜ r ≡ codedBit (logicAnd (operandOf «a_is_real» a «a_real») (lent (now (av .entry)) (now (au .entry))) (operandOf «b_is_real» b «b_real») (lent (now (bv .entry)) (now (bu .entry)))) ⌝ }
+    ensures { λ r. ⌜ r
+        ≡ codedBit
+        (logicAnd (operandOf «a_is_real» a «a_real») (lentBy (av .entry) (au .entry))
+        (operandOf «b_is_real» b «b_real») (lentBy (bv .entry) (bu .entry))) ⌝ }
 {
     let x = operand(a_is_real, a, a_real);
     let y = operand(b_is_real, b, b_real);
-    bit_result(logic::logic_and(x, av, au, y, bv, bu))
+    bit_result(truth::logic_and(x, av, au, y, bv, bu))
 }
 
-// `logic::logic_or`
+// `truth::logic_or`
 #[no_mangle]
 pub extern "C" fn vowherunga_logic_or(
     a_is_real: bool,
@@ -91,11 +95,14 @@ pub extern "C" fn vowherunga_logic_or(
     bv: &[u64],
     bu: &[u64],
 ) -> BitResult
-    ensures { λ r. ⌜ r ≡ codedBit (logicOr (operandOf «a_is_real» a «a_real») (lent (now (av .entry)) (now (au .entry))) (operandOf «b_is_real» b «b_real») (lent (now (bv .entry)) (now (bu .entry)))) ⌝ }
+    ensures { λ r. ⌜ r
+        ≡ codedBit
+        (logicOr (operandOf «a_is_real» a «a_real») (lentBy (av .entry) (au .entry))
+        (operandOf «b_is_real» b «b_real») (lentBy (bv .entry) (bu .entry))) ⌝ }
 {
     let x = operand(a_is_real, a, a_real);
     let y = operand(b_is_real, b, b_real);
-    bit_result(logic::logic_or(x, av, au, y, bv, bu))
+    bit_result(truth::logic_or(x, av, au, y, bv, bu))
 }
 
 // `compare::is_equal`
@@ -112,7 +119,10 @@ pub extern "C" fn vowherunga_is_equal(
     bv: &[u64],
     bu: &[u64],
 ) -> BitResult
-    ensures { λ r. ⌜ r ≡ codedBit (isEqual (operandOf «a_is_real» a «a_real») (lent (now (av .entry)) (now (au .entry))) (operandOf «b_is_real» b «b_real») (lent (now (bv .entry)) (now (bu .entry)))) ⌝ }
+    ensures { λ r. ⌜ r
+        ≡ codedBit
+        (isEqual (operandOf «a_is_real» a «a_real») (lentBy (av .entry) (au .entry))
+        (operandOf «b_is_real» b «b_real») (lentBy (bv .entry) (bu .entry))) ⌝ }
 {
     let x = operand(a_is_real, a, a_real);
     let y = operand(b_is_real, b, b_real);
@@ -129,7 +139,8 @@ pub extern "C" fn vowherunga_equal_vectors(
     bv: &[u64],
     bu: &[u64],
 ) -> BitResult
-    ensures { λ r. ⌜ r ≡ codedBit (isEqual (Vector a) (lent (now (av .entry)) (now (au .entry))) (Vector b) (lent (now (bv .entry)) (now (bu .entry)))) ⌝ }
+    ensures { λ r. ⌜ r
+        ≡ codedBit (isEqual (Vector a) (lentBy (av .entry) (au .entry)) (Vector b) (lentBy (bv .entry) (bu .entry))) ⌝ }
 {
     bit_result(compare::compare_vectors(Comparison::Equal, a, av, au, b, bv, bu))
 }
@@ -144,7 +155,8 @@ pub extern "C" fn vowherunga_case_eq(
     bv: &[u64],
     bu: &[u64],
 ) -> BitResult
-    ensures { λ r. ⌜ r ≡ codedBit (comparison CaseEqual a (lent (now (av .entry)) (now (au .entry))) b (lent (now (bv .entry)) (now (bu .entry)))) ⌝ }
+    ensures { λ r. ⌜ r
+        ≡ codedBit (comparison CaseEqual a (lentBy (av .entry) (au .entry)) b (lentBy (bv .entry) (bu .entry))) ⌝ }
 {
     bit_result(compare::case_eq(a, av, au, b, bv, bu))
 }
@@ -159,7 +171,8 @@ pub extern "C" fn vowherunga_casez_eq(
     bv: &[u64],
     bu: &[u64],
 ) -> BitResult
-    ensures { λ r. ⌜ r ≡ codedBit (comparison CasezEqual a (lent (now (av .entry)) (now (au .entry))) b (lent (now (bv .entry)) (now (bu .entry)))) ⌝ }
+    ensures { λ r. ⌜ r
+        ≡ codedBit (comparison CasezEqual a (lentBy (av .entry) (au .entry)) b (lentBy (bv .entry) (bu .entry))) ⌝ }
 {
     bit_result(compare::casez_eq(a, av, au, b, bv, bu))
 }
@@ -174,7 +187,8 @@ pub extern "C" fn vowherunga_casex_eq(
     bv: &[u64],
     bu: &[u64],
 ) -> BitResult
-    ensures { λ r. ⌜ r ≡ codedBit (comparison CasexEqual a (lent (now (av .entry)) (now (au .entry))) b (lent (now (bv .entry)) (now (bu .entry)))) ⌝ }
+    ensures { λ r. ⌜ r
+        ≡ codedBit (comparison CasexEqual a (lentBy (av .entry) (au .entry)) b (lentBy (bv .entry) (bu .entry))) ⌝ }
 {
     bit_result(compare::casex_eq(a, av, au, b, bv, bu))
 }
@@ -189,7 +203,8 @@ pub extern "C" fn vowherunga_wildcard_eq(
     bv: &[u64],
     bu: &[u64],
 ) -> BitResult
-    ensures { λ r. ⌜ r ≡ codedBit (comparison WildcardEqual a (lent (now (av .entry)) (now (au .entry))) b (lent (now (bv .entry)) (now (bu .entry)))) ⌝ }
+    ensures { λ r. ⌜ r
+        ≡ codedBit (comparison WildcardEqual a (lentBy (av .entry) (au .entry)) b (lentBy (bv .entry) (bu .entry))) ⌝ }
 {
     bit_result(compare::wildcard_eq(a, av, au, b, bv, bu))
 }

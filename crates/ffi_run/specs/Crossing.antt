@@ -4,22 +4,17 @@ use mathlib.Core.Bool.{Bool, false, cond}
 use Prim.Native.Nat.{ℕ}
 use mathlib.Core.List.{List}
 use lib.Dec.{eqb}
-use denote.Ref.{RefT, now}
 use Rattle.words.specs.Planes.{Planes}
 use Rattle.machine.specs.Machine.{Ending, AtEnd, RefusedAt}
 use Rattle.store.specs.declared.Store.{Store}
 use Rattle.steps.specs.Run.{Final}
-use Rattle.fields.specs.declared.Fields.{Fields}
-use Rattle.fields.specs.Fields.{fields, fieldsOf, settled, Crossed, crossed}
+use Rattle.store_abi.specs.declared.Fields.{Fields}
+use Rattle.store_abi.specs.Fields.{fieldsOf, settled, Crossed, crossed}
 use Rattle.ffi_run.specs.declared.RunResult.{RunResult}
-
--- the fields in four lent arrays
-abbrev pub fieldsBy : (starts widths : RefT (List ℕ)) (signs fills : RefT (List Bool)) → Fields
-fieldsBy a b c d = fields (now a) (now b) (now c) (now d)
 
 -- the list is refused before its first input: by 6 ("Numbers for what is not done"), which no input and no step is refused by
 abbrev pub refusedWhole : Ending → Bool
-refusedWhole AtEnd = false
+refusedWhole (AtEnd k) = false
 refusedWhole (RefusedAt n step) = eqb n 6
 
 -- the fields of the store that a run leaves; a list that is refused whole changes nothing that is lent

@@ -1,20 +1,21 @@
-// The run of a step list for C and Rust, as numbers, slices and arrays: the store that it leaves crosses as its number of cells and four arrays of
-// 320 places. The export asks nothing of its caller.
-use fields::save;
+// The run of a step list for C and Rust, as numbers, slices and arrays: the store that it leaves crosses as its number of cells and four
+// arrays of 320 places. The export asks nothing of its caller.
 use steps::RunAnswer;
 use steps::RunEnding;
+use store_abi::save;
 ghost use mathlib.Core.Path.{_≡_};
+ghost use Rattle.words.specs.Planes.{lentBy};
 ghost use Rattle.lines.specs.Buffer.{buffer};
-ghost use Rattle.steps.specs.Run.{endingOf, runText, finalOf, lentBy};
-ghost use Rattle.fields.specs.Fields.{settled, crossed};
-ghost use Rattle.ffi_run.specs.Crossing.{refusedWhole, fieldsBy, savedFields, crossedRun};
+ghost use Rattle.steps.specs.Run.{endingOf, runText, finalOf};
+ghost use Rattle.store_abi.specs.Fields.{fieldsBy, settled, crossed};
+ghost use Rattle.ffi_run.specs.Crossing.{refusedWhole, savedFields, crossedRun};
 
 // Whether a run was refused before its first input: by 6.
 fn refused_whole(e: RunEnding) -> bool
     ensures { λ r. ⌜ r ≡ refusedWhole (endingOf e) ⌝ }
 {
     match e {
-        RunEnding::Done => false,
+        RunEnding::Done(_) => false,
         RunEnding::Refused(r, _) => refusal::number(r) == 6,
     }
 }

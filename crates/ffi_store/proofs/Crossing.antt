@@ -9,9 +9,9 @@ use Rattle.ops.specs.declared.Step.{Step}
 use Rattle.store.specs.declared.Store.{Store}
 use Rattle.store.specs.Store.{State, state, addInput}
 use Rattle.store.specs.Step.{Memory, memory, addStep}
-use Rattle.fields.specs.declared.CellResult.{CellResult}
-use Rattle.fields.specs.declared.Fields.{Fields}
-use Rattle.fields.specs.Fields.{Settled, settledBy, crossed, storeOf, opOf}
+use Rattle.store_abi.specs.declared.CellResult.{CellResult}
+use Rattle.store_abi.specs.declared.Fields.{Fields}
+use Rattle.store_abi.specs.Fields.{Settled, settledBy, crossed, storeOf, opOf}
 use Rattle.ffi_store.specs.Crossing.{crossedInput, crossedStep}
 
 abbrev stepOf : Op → ℕ → ℕ → ℕ → Step

@@ -5,9 +5,9 @@ use Rattle.refusal.specs.Outcome.{Outcome}
 use Rattle.words.specs.Planes.{Planes}
 use Rattle.store.specs.Store.{State}
 use Rattle.store.specs.Step.{Memory}
-use Rattle.fields.specs.declared.CellResult.{CellResult}
-use Rattle.fields.specs.declared.Fields.{Fields}
-use Rattle.fields.specs.Fields.{settledBy, Crossed, crossed}
+use Rattle.store_abi.specs.declared.CellResult.{CellResult}
+use Rattle.store_abi.specs.declared.Fields.{Fields}
+use Rattle.store_abi.specs.Fields.{settledBy, Crossed, crossed}
 
 -- what `add_input` does to the store that the fields f say
 abbrev pub crossedInput : Fields → Outcome ℕ State → Crossed CellResult Planes

@@ -1,16 +1,16 @@
 // The calls of the cell store for C and Rust, as numbers, slices and arrays: a store crosses as its number of cells and four arrays of 320
 // places. Each export asks nothing of its caller, and a refusal changes nothing.
-use fields::CellResult;
-use fields::load;
-use fields::op_of;
-use fields::settle;
 use ops::Step;
+use store_abi::CellResult;
+use store_abi::load;
+use store_abi::op_of;
+use store_abi::settle;
 use value::Header;
 ghost use mathlib.Core.Path.{_≡_};
-ghost use Rattle.words.specs.Planes.{lent};
-ghost use Rattle.store.specs.Store.{state, addInput};
-ghost use Rattle.store.specs.Step.{memory, addStep};
-ghost use Rattle.fields.specs.Fields.{fields, storeOf, opOf, settled, crossed};
+ghost use Rattle.words.specs.Planes.{lentBy};
+ghost use Rattle.store.specs.Store.{stateBy, addInput};
+ghost use Rattle.store.specs.Step.{memoryBy, addStep};
+ghost use Rattle.store_abi.specs.Fields.{fieldsBy, storeOf, opOf, settled, crossed};
 ghost use Rattle.ffi_store.specs.Crossing.{crossedInput, crossedStep};
 
 // `Store::add_input` on the store of `count` cells that the four arrays say; where it is done, the store has one cell more
@@ -27,7 +27,12 @@ pub extern "C" fn vowherunga_add_input(
     arena_value: &mut [u64],
     arena_unknown: &mut [u64],
 ) -> CellResult
-    ensures { λ r. ⌜ crossed (settled r (fields (now (starts .exit)) (now (widths .exit)) (now (signs .exit)) (now (fills .exit)))) (lent (now («arena_value» .exit)) (now («arena_unknown» .exit))) ≡ crossedInput (fields (now (starts .entry)) (now (widths .entry)) (now (signs .entry)) (now (fills .entry))) (addInput (state (storeOf count (fields (now (starts .entry)) (now (widths .entry)) (now (signs .entry)) (now (fills .entry)))) (lent (now («arena_value» .entry)) (now («arena_unknown» .entry)))) h (lent (now (value .entry)) (now (unknown .entry)))) ⌝ }
+    ensures { λ r. ⌜ crossed (settled r (fieldsBy (starts .exit) (widths .exit) (signs .exit) (fills .exit)))
+        (lentBy («arena_value» .exit) («arena_unknown» .exit))
+        ≡ crossedInput (fieldsBy (starts .entry) (widths .entry) (signs .entry) (fills .entry))
+        (addInput
+        (stateBy (storeOf count (fieldsBy (starts .entry) (widths .entry) (signs .entry) (fills .entry))) («arena_value» .entry) («arena_unknown» .entry))
+        h (lentBy (value .entry) (unknown .entry))) ⌝ }
 {
     let s = load(count, starts, widths, signs, fills);
     let r = s.add_input(h, value, unknown, arena_value, arena_unknown);
@@ -51,7 +56,13 @@ pub extern "C" fn vowherunga_add_step(
     scratch_value: &mut [u64],
     scratch_unknown: &mut [u64],
 ) -> CellResult
-    ensures { λ r. ⌜ crossed (settled r (fields (now (starts .exit)) (now (widths .exit)) (now (signs .exit)) (now (fills .exit)))) ((lent (now («arena_value» .exit)) (now («arena_unknown» .exit))), (lent (now («scratch_value» .exit)) (now («scratch_unknown» .exit)))) ≡ crossedStep (fields (now (starts .entry)) (now (widths .entry)) (now (signs .entry)) (now (fills .entry))) (addStep (memory (state (storeOf count (fields (now (starts .entry)) (now (widths .entry)) (now (signs .entry)) (now (fills .entry)))) (lent (now («arena_value» .entry)) (now («arena_unknown» .entry)))) (lent (now («scratch_value» .entry)) (now («scratch_unknown» .entry)))) (record { op = opOf op; a = a; b = b; c = c })) ⌝ }
+    ensures { λ r. ⌜ crossed (settled r (fieldsBy (starts .exit) (widths .exit) (signs .exit) (fills .exit)))
+        (lentBy («arena_value» .exit) («arena_unknown» .exit), lentBy («scratch_value» .exit) («scratch_unknown» .exit))
+        ≡ crossedStep (fieldsBy (starts .entry) (widths .entry) (signs .entry) (fills .entry))
+        (addStep
+        (memoryBy (storeOf count (fieldsBy (starts .entry) (widths .entry) (signs .entry) (fills .entry)))
+        («arena_value» .entry) («arena_unknown» .entry) («scratch_value» .entry) («scratch_unknown» .entry))
+        (record { op = opOf op; a = a; b = b; c = c })) ⌝ }
 {
     let s = load(count, starts, widths, signs, fills);
     let step = Step {

@@ -1,17 +1,17 @@
-// The word forms for C and Rust, for vectors of at most 64 bits: a word of each plane in, a pair of words or the code of a bit out. Each export
-// asks nothing of its caller and does nothing but call its form.
+// The word forms for C and Rust, for vectors of at most 64 bits: a word of each plane in, a pair of words or the code of a bit out. Each
+// export asks nothing of its caller and does nothing but call its form.
+use compare_words::Comparison;
 use lanes::Bitwise;
-use scan::Comparison;
 use words::Word;
 ghost use mathlib.Core.Path.{_≡_};
 ghost use Prim.Native.Nat.{min};
 ghost use Rattle.bit.specs.Rules.{code};
 ghost use Rattle.words.specs.Planes.{vectorOf, planesOf};
 ghost use Rattle.lanes.specs.declared.Bitwise.the-variants.{And, Or, Xor, Merge};
-ghost use Rattle.join.specs.Joined.{joined, inverted};
-ghost use Rattle.fold.specs.Fold.{reduceAnd, reduceOr, reduceXor, truthOf, truthBit};
-ghost use Rattle.scan.specs.declared.Comparison.the-variants.{Equal, CaseEqual, CasezEqual, CasexEqual, WildcardEqual};
-ghost use Rattle.scan.specs.Compared.{compared};
+ghost use Rattle.bitwise_words.specs.Joined.{joined, inverted};
+ghost use Rattle.reduce_words.specs.Fold.{reduceAnd, reduceOr, reduceXor, truthOf, truthBit};
+ghost use Rattle.compare_words.specs.declared.Comparison.the-variants.{Equal, CaseEqual, CasezEqual, CasexEqual, WildcardEqual};
+ghost use Rattle.compare_words.specs.Compared.{compared};
 ghost use Rattle.narrow.specs.Narrow.{single, plain64};
 
 // `narrow::join` by and
@@ -83,7 +83,7 @@ pub extern "C" fn vowherunga_reduce_xor_word(a: Word) -> u8
 pub extern "C" fn vowherunga_truth_word(a: Word) -> u8
     ensures { λ r. ⌜ r ≡ code (truthBit (truthOf (vectorOf 64 (single a)))) ⌝ }
 {
-    bit::to_code(fold::truth_bit(narrow::truth(a)))
+    bit::to_code(reduce_words::truth_bit(narrow::truth(a)))
 }
 
 // `narrow::compare` by `is_equal`

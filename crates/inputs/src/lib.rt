@@ -2,7 +2,7 @@
 use refusal::Verdict;
 use store::Store;
 
-pub mod inner;
+pub mod unchecked;
 
 // What adding the inputs of a list answers, and the store that it leaves.
 pub struct InputsAnswer {

@@ -6,10 +6,10 @@ use value::check_vector;
 use words::Word;
 ghost use mathlib.Core.Path.{_≡_};
 ghost use Rattle.refusal.specs.Outcome.{outcome};
-ghost use Rattle.words.specs.Planes.{lent};
+ghost use Rattle.words.specs.Planes.{lentBy};
 ghost use Rattle.insert.specs.Insert.{insertBits, changeAnswer};
 
-pub mod inner;
+pub mod unchecked;
 
 // Whether an insert changed a bit.
 pub enum ChangeAnswer {
@@ -26,11 +26,12 @@ pub fn splice_bits64(
     bits: Word,
     n: usize,
 ) -> ChangeAnswer
-    ensures { λ r. ⌜ outcome (changeAnswer r) (lent (now (value .exit)) (now (unknown .exit))) ≡ insertBits a (lent (now (value .entry)) (now (unknown .entry))) pos bits n ⌝ }
+    ensures { λ r. ⌜ outcome (changeAnswer r) (lentBy (value .exit) (unknown .exit))
+        ≡ insertBits a (lentBy (value .entry) (unknown .entry)) pos bits n ⌝ }
 {
     match check_vector(a, value, unknown) {
         Verdict::Refused(r) => ChangeAnswer::Refused(r),
-        Verdict::Accepted => ChangeAnswer::Changed(inner::splice_bits64(
+        Verdict::Accepted => ChangeAnswer::Changed(unchecked::splice_bits64(
             a.width,
             value,
             unknown,

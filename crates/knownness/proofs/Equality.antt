@@ -21,10 +21,10 @@ use Rattle.value.specs.Checks.{Vector}
 use Rattle.extension.specs.declared.Operator.{Operator}
 use Rattle.extension.specs.declared.Operator.the-variants as operator
 use Rattle.extension.specs.Extension.{largerWidth, extension, operandAt, stretches, top}
-use Rattle.fold.proofs.Folds.{and-fold}
-use Rattle.scan.specs.declared.Comparison.the-variants as comparison
-use Rattle.scan.specs.Compared.{compared}
-use Rattle.scan.proofs.Places.{compared-and}
+use Rattle.reduce_words.proofs.Folds.{and-fold}
+use Rattle.compare_words.specs.declared.Comparison.the-variants as comparison
+use Rattle.compare_words.specs.Compared.{compared}
+use Rattle.compare_words.proofs.Places.{compared-and}
 use Rattle.knownness.specs.Knownness.{Known, Keeps, Completes, Pointwise, Comparable}
 use Rattle.knownness.proofs.Bits.{sameBit, exact-and, exact-same, keeps-refl}
 use Rattle.knownness.proofs.Readings.{KnownBits, made, made-completes, a-completion, of-operand, inside, fold-mono, fold-known}

@@ -19,8 +19,8 @@ use Rattle.bit.proofs.Tests.{and-left, and-right}
 use Rattle.refusal.specs.Outcome.Answer.{given}
 use Rattle.words.specs.Vector.{at, tabulate}
 use Rattle.value.specs.Checks.{plain, Vector}
-use Rattle.scan.specs.declared.Comparison.the-variants as comparison
-use Rattle.scan.specs.Compared.{compared}
+use Rattle.compare_words.specs.declared.Comparison.the-variants as comparison
+use Rattle.compare_words.specs.Compared.{compared}
 use Rattle.ops.specs.declared.Op.{Op}
 use Rattle.ops.specs.declared.Op.the-variants.{And, Or, Xor, Not, Merge, ReduceAnd, ReduceOr, ReduceXor, Equal, CaseEqual, CasezEqual, CasexEqual, WildcardEqual, LogicAnd, LogicOr, Select, Insert}
 use Rattle.ops.specs.declared.Step.{Step}

@@ -26,12 +26,12 @@ use Rattle.lanes.specs.declared.Bitwise.the-variants as bitwise
 use Rattle.lanes.specs.Lanes.{opBit}
 use Rattle.extension.specs.declared.Operator.the-variants as operator-of
 use Rattle.extension.specs.Extension.{largerWidth, operandAt}
-use Rattle.join.specs.Joined.{operator}
-use Rattle.fold.specs.declared.Truth.{Truth}
-use Rattle.fold.specs.declared.Truth.the-variants as truth
-use Rattle.fold.specs.Fold.{reduceAnd, reduceOr, reduceXor, truthOf, truthBit}
-use Rattle.scan.specs.declared.Comparison.the-variants as comparison
-use Rattle.scan.specs.Compared.{compared}
+use Rattle.bitwise_words.specs.Joined.{operator}
+use Rattle.reduce_words.specs.declared.Truth.{Truth}
+use Rattle.reduce_words.specs.declared.Truth.the-variants as truth
+use Rattle.reduce_words.specs.Fold.{reduceAnd, reduceOr, reduceXor, truthOf, truthBit}
+use Rattle.compare_words.specs.declared.Comparison.the-variants as comparison
+use Rattle.compare_words.specs.Compared.{compared}
 use Rattle.ops.specs.declared.Op.{Op}
 use Rattle.ops.specs.declared.Op.the-variants.{And, Or, Xor, Not, Merge, ReduceAnd, ReduceOr, ReduceXor, Equal, CaseEqual, CasezEqual, CasexEqual, WildcardEqual, LogicAnd, LogicOr, Select, Insert}
 use Rattle.ops.specs.declared.Family.{Family}

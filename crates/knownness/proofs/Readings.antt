@@ -21,8 +21,8 @@ use Rattle.value.specs.declared.Header.{Header}
 use Rattle.value.specs.Checks.{Vector}
 use Rattle.extension.specs.declared.Operator.{Operator}
 use Rattle.extension.specs.Extension.{top, stretched, signExtended, operandAt}
-use Rattle.fold.specs.Fold.{reduceAnd, reduceOr, reduceXor, truthOf, truthBit}
-use Rattle.fold.proofs.Folds.{and-fold, or-fold, xor-fold, truth-or}
+use Rattle.reduce_words.specs.Fold.{reduceAnd, reduceOr, reduceXor, truthOf, truthBit}
+use Rattle.reduce_words.proofs.Folds.{and-fold, or-fold, xor-fold, truth-or}
 use Rattle.knownness.specs.Knownness.{Known, Keeps, Completes, Pointwise}
 use Rattle.knownness.proofs.Bits.{ExactRule, exact-and, exact-or, exact-xor, keeps-refl}
 

@@ -128,9 +128,9 @@ pub record Alike (r : Room) (A B : List Vector) (ss : List Step) : Type 0 where
 
 pub alike : (r : Room) (A B : List Vector) (ss : List Step) → AllSound A → Cellwise Refines A B → Alike r A B ss
 alike r A B ss a h = record {
-  ending = same-ending r ss 1 A B (headers-again Refines A B h);
-  kept = λ l. kept r ss l 1 A B a (refined-keeps A B h);
+  ending = same-ending r ss 0 A B (headers-again Refines A B h);
+  kept = λ l. kept r ss l 0 A B a (refined-keeps A B h);
 }
 
 pub exact : (r : Room) (A : List Vector) (ss : List Step) → AllSound A → ExactCells Exactable (length A) ss (machineRun r A ss .cells)
-exact r A ss a k h = exact-from r ss 1 A a k h
+exact r A ss a k h = exact-from r ss 0 A a k h

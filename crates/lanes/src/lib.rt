@@ -1,5 +1,5 @@
-// The operators on single words: each of the 64 places by its single-bit rule, in a few word operations. One function for each operator, and
-// the choice among them.
+// The operators on single words: each of the 64 places by its single-bit rule, in a few word operations. One function for each operator,
+// and the choice among them.
 use words::Word;
 ghost use mathlib.Core.Path.{_≡_};
 ghost use Rattle.bit.specs.Rules.{andBit, orBit, xorBit, mergeBit};

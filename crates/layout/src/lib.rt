@@ -3,7 +3,7 @@ use cells::Operands;
 use refusal::Refusal;
 use value::Header;
 
-pub mod inner;
+pub mod unchecked;
 
 // The word at which the next cell begins, or the refusal.
 pub enum PlaceAnswer {

@@ -3,7 +3,7 @@ use bit::LogicBit;
 ghost use mathlib.Core.Path.{_≡_};
 ghost use Rattle.text.specs.Write.{bitByte};
 
-pub mod inner;
+pub mod unchecked;
 
 // The character of a bit: 0, 1, x or z.
 pub fn bit_byte(b: LogicBit) -> u8

@@ -79,9 +79,9 @@ checkStep r hs s =
 abbrev pub stepCell : List Vector → Step → Vector
 stepCell cs s = opVector (s .op) (cellAt cs (s .a)) (cellAt cs (s .b)) (cellAt cs (s .c)) (s .c)
 
--- the list's end, or a refusal's number and step (from 1; 0 for the file or an input)
+-- the list's end, and how many steps were run, or a refusal's number and step (from 1; 0 for the file or an input)
 pub data Ending : Type 0 where
-  AtEnd : Ending
+  AtEnd : (steps : ℕ) → Ending
   RefusedAt : (number step : ℕ) → Ending
 
 pub record Run : Type 0 where
@@ -91,13 +91,13 @@ pub record Run : Type 0 where
 -- a refused step is the run's last, and adds no cell
 abbrev pub onward : Answer Unit → List Vector → ℕ → Run → Run
 onward (given u) cs k rest = rest
-onward (refused n) cs k rest = record { cells = cs; ending = RefusedAt n k }
+onward (refused n) cs k rest = record { cells = cs; ending = RefusedAt n (suc k) }
 
--- the steps on the cells cs, the first of them number k: each that is not refused adds one cell
+-- the steps on the cells cs, behind k steps that were run: each that is not refused adds one cell
 unfoldable pub runFrom : Room → List Vector → ℕ → List Step → Run
-runFrom r cs k [] = record { cells = cs; ending = AtEnd }
+runFrom r cs k [] = record { cells = cs; ending = AtEnd k }
 runFrom r cs k (s ∷ ss) = onward (checkStep r (headersOf cs) s) cs k (runFrom r (cs ++ (stepCell cs s ∷ [])) (suc k) ss)
 
 -- the accepted inputs are the first cells, in order
 abbrev pub machineRun : Room → List Vector → List Step → Run
-machineRun r inputs ss = runFrom r inputs 1 ss
+machineRun r inputs ss = runFrom r inputs 0 ss

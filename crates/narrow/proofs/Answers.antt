@@ -25,12 +25,12 @@ use Rattle.words.proofs.Planes as planes
 use Rattle.words.proofs.Planes.{length-tabulate}
 use Rattle.words.proofs.Lanes.{Lane, word, gives, lane}
 use Rattle.words.proofs.Lanes.Lane.{av, au, neg, and, or}
-use Rattle.fold.specs.declared.Truth.the-variants.{False, True, Unknown}
-use Rattle.fold.specs.Fold.{anyOf, countOf, isUnknown, reduceAnd, reduceOr, reduceXor, truthOf}
-use Rattle.fold.proofs.Scanned.{some, gather}
-use Rattle.fold.proofs.Gather.{gather-cong, of-list}
-use Rattle.fold.proofs.Places.{nonzero, WordPlanes}
-use Rattle.fold.proofs.Parity as parity
+use Rattle.reduce_words.specs.declared.Truth.the-variants.{False, True, Unknown}
+use Rattle.reduce_words.specs.Fold.{anyOf, countOf, isUnknown, reduceAnd, reduceOr, reduceXor, truthOf}
+use Rattle.reduce_words.proofs.Scanned.{some, gather}
+use Rattle.reduce_words.proofs.Gather.{gather-cong, of-list}
+use Rattle.reduce_words.proofs.Places.{nonzero, WordPlanes}
+use Rattle.reduce_words.proofs.Parity as parity
 use Rattle.narrow.specs.Narrow.{single}
 use Rattle.narrow.proofs.Singles.{whole, at-most, placeOf, place}
 

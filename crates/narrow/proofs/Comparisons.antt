@@ -18,13 +18,13 @@ use Rattle.words.proofs.Digits.{lt-or-ge}
 use Rattle.words.proofs.Planes.{getD-tabulate, getD-tabulate-out, length-tabulate, operand}
 use Rattle.value.specs.declared.Header.{Header}
 use Rattle.value.specs.Checks.{plain, vector}
-use Rattle.fold.specs.Fold.{anyOf}
-use Rattle.fold.proofs.Gather.{gather-cong}
-use Rattle.fold.proofs.Places.{any-some}
+use Rattle.reduce_words.specs.Fold.{anyOf}
+use Rattle.reduce_words.proofs.Gather.{gather-cong}
+use Rattle.reduce_words.proofs.Places.{any-some}
 use Rattle.extension.specs.Extension.{extendsByTop, stretched, signedFor, signExtended, top, operandAt}
-use Rattle.scan.specs.declared.Comparison.{Comparison}
-use Rattle.scan.specs.Compared.{operator, mismatch, unsure, onPair, decided, places, compared, wordPlaces}
-use Rattle.scan.proofs.Places.{zeros, zero-apart, zero-unsure}
+use Rattle.compare_words.specs.declared.Comparison.{Comparison}
+use Rattle.compare_words.specs.Compared.{operator, mismatch, unsure, onPair, decided, places, compared, wordPlaces}
+use Rattle.compare_words.proofs.Places.{zeros, zero-apart, zero-unsure}
 use Rattle.narrow.specs.Narrow.{single, plain64}
 use Rattle.narrow.proofs.Singles.{whole, at-most, placeOf}
 

@@ -26,7 +26,7 @@ use Rattle.lanes.specs.declared.Bitwise.the-variants.{And, Or, Xor, Merge}
 use Rattle.lanes.specs.Lanes.{opBit, laneWord}
 use Rattle.lanes.proofs.Places as lanes
 use Rattle.lanes.proofs.Places.{laneOne, cutWord}
-use Rattle.join.specs.Joined.{operator, joined, inverted}
+use Rattle.bitwise_words.specs.Joined.{operator, joined, inverted}
 use Rattle.narrow.specs.Narrow.{single, plain64}
 use Rattle.narrow.proofs.Singles.{whole, at-most, placeOf, place, one-word}
 

@@ -1,18 +1,18 @@
-// Word forms of the operators, for vectors of at most 64 bits: a word of each plane in, a word pair or an answer out. Nothing is asked of the
-// words: a form that takes a width does not see the bits at or above it, the others see all 64 places.
+// Word forms of the operators, for vectors of at most 64 bits: a word of each plane in, a word pair or an answer out. Nothing is asked of
+// the words: a form that takes a width does not see the bits at or above it, the others see all 64 places.
 use bit::LogicBit;
-use fold::Truth;
+use compare_words::Comparison;
 use lanes::Bitwise;
-use scan::Comparison;
+use reduce_words::Truth;
 use words::Word;
-use words::inner::least;
-use words::inner::ones;
+use words::unchecked::least;
+use words::unchecked::ones;
 ghost use mathlib.Core.Path.{_≡_};
 ghost use Prim.Native.Nat.{min};
 ghost use Rattle.words.specs.Planes.{vectorOf, planesOf};
-ghost use Rattle.fold.specs.Fold.{reduceAnd, reduceOr, reduceXor, truthOf};
-ghost use Rattle.join.specs.Joined.{joined, inverted};
-ghost use Rattle.scan.specs.Compared.{compared};
+ghost use Rattle.reduce_words.specs.Fold.{reduceAnd, reduceOr, reduceXor, truthOf};
+ghost use Rattle.bitwise_words.specs.Joined.{joined, inverted};
+ghost use Rattle.compare_words.specs.Compared.{compared};
 ghost use Rattle.narrow.specs.Narrow.{single, plain64};
 
 // The operator at each of the 64 places.
@@ -71,7 +71,7 @@ pub fn truth(a: Word) -> Truth
 pub fn reduce_or(a: Word) -> LogicBit
     ensures { λ r. ⌜ r ≡ reduceOr (vectorOf 64 (single a)) ⌝ }
 {
-    fold::truth_bit(truth(a))
+    reduce_words::truth_bit(truth(a))
 }
 
 // x on any unknown bit, else whether the number of ones is odd.
@@ -91,5 +91,5 @@ pub fn reduce_xor(a: Word) -> LogicBit
 pub fn compare(op: Comparison, a: Word, b: Word) -> LogicBit
     ensures { λ r. ⌜ r ≡ compared op (plain64 a) (plain64 b) ⌝ }
 {
-    scan::inner::compare_words(op, a, b, 64)
+    compare_words::unchecked::compare_words(op, a, b, 64)
 }

@@ -7,7 +7,7 @@ use lib.Dec.{T}
 use lib.ListN.{length}
 use Rattle.words.specs.Planes.{Planes, Plane, valuePlane, unknownPlane, planesOf}
 use Rattle.words.proofs.Planes.{length-tabulate, value-plane, unknown-plane}
-use Rattle.planecheck.specs.PlaneCheck.{maxWidth}
+use Rattle.value.specs.Checks.{maxWidth}
 use Rattle.value.specs.declared.Header.{Header}
 use Rattle.value.specs.Checks.{vector}
 use Rattle.value.proofs.Checks.{Sound}

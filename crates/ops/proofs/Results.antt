@@ -11,9 +11,9 @@ use lib.ListN.{length}
 use Rattle.words.proofs.Planes.{length-tabulate}
 use Rattle.value.specs.declared.Header.{Header}
 use Rattle.value.specs.Checks.{Vector}
-use Rattle.fold.specs.declared.Truth.{Truth}
-use Rattle.fold.specs.declared.Truth.the-variants as truth
-use Rattle.fold.specs.Fold.{truthOf}
+use Rattle.reduce_words.specs.declared.Truth.{Truth}
+use Rattle.reduce_words.specs.declared.Truth.the-variants as truth
+use Rattle.reduce_words.specs.Fold.{truthOf}
 use Rattle.ops.specs.declared.Op.{Op}
 use Rattle.ops.specs.declared.Family.{Family}
 use Rattle.ops.specs.declared.Family.the-variants as family

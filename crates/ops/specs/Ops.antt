@@ -12,14 +12,12 @@ use Rattle.bits.specs.Bits.{spliced}
 use Rattle.value.specs.declared.Header.{Header}
 use Rattle.value.specs.Checks.{plain, Vector}
 use Rattle.lanes.specs.declared.Bitwise.the-variants as bitwise
-use Rattle.join.specs.Joined.{joined, inverted}
-use Rattle.vectors.specs.Vectors.{resultHeader}
-use Rattle.bitwise.specs.Bitwise.{notHeader}
-use Rattle.fold.specs.declared.Truth.{Truth}
-use Rattle.fold.specs.declared.Truth.the-variants as truth
-use Rattle.fold.specs.Fold.{reduceAnd, reduceOr, reduceXor, truthOf, truthBit}
-use Rattle.scan.specs.declared.Comparison.the-variants as comparison
-use Rattle.scan.specs.Compared.{compared}
+use Rattle.bitwise_words.specs.Joined.{joined, inverted, resultHeader, notHeader}
+use Rattle.reduce_words.specs.declared.Truth.{Truth}
+use Rattle.reduce_words.specs.declared.Truth.the-variants as truth
+use Rattle.reduce_words.specs.Fold.{reduceAnd, reduceOr, reduceXor, truthOf, truthBit}
+use Rattle.compare_words.specs.declared.Comparison.the-variants as comparison
+use Rattle.compare_words.specs.Compared.{compared}
 use Rattle.ops.specs.declared.Op.{Op}
 use Rattle.ops.specs.declared.Op.the-variants.{And, Or, Xor, Not, Merge, ReduceAnd, ReduceOr, ReduceXor, Equal, CaseEqual, CasezEqual, CasexEqual, WildcardEqual, LogicAnd, LogicOr, Select, Insert}
 use Rattle.ops.specs.declared.Step.{Step}
@@ -73,6 +71,17 @@ familyOperands family.Insert = 2
 
 abbrev pub operands : Op → ℕ
 operands op = familyOperands (familyOf op)
+
+-- how many of a, b and c an op uses, the first ones: the cells that it names, and the position of insert
+abbrev pub familyUses : Family → ℕ
+familyUses (family.Join j) = 2
+familyUses family.Not = 1
+familyUses (family.Answer q) = questionOperands q
+familyUses family.Select = 3
+familyUses family.Insert = 3
+
+abbrev pub uses : Op → ℕ
+uses op = familyUses (familyOf op)
 
 -- ---- "Numbers for what is not done", 7
 

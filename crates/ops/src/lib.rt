@@ -1,9 +1,11 @@
 // The ops of a step list: how each is worked out, how many cells it names, which arms it refuses, and the header of its result.
+use compare_words::Comparison;
 use lanes::Bitwise;
-use scan::Comparison;
 use value::Header;
 ghost use mathlib.Core.Path.{_≡_};
-ghost use Rattle.ops.specs.Ops.{familyOf, operands, armsRefused, opHeader};
+ghost use Rattle.ops.specs.Ops.{familyOf, operands, uses, armsRefused, opHeader};
+
+pub mod unchecked;
 
 // The ops of a step list.
 pub enum Op {
@@ -94,6 +96,16 @@ pub fn operand_count(op: Op) -> usize
     }
 }
 
+// How many of a step's numbers a, b and c an op uses, the first ones: the cells that it names, and the position of insert.
+pub fn number_count(op: Op) -> usize
+    ensures { λ r. ⌜ r ≡ uses op ⌝ }
+{
+    match family_of(op) {
+        Family::Join(_) | Family::Not | Family::Answer(_) | Family::Select => operand_count(op),
+        Family::Insert => 3,
+    }
+}
+
 // Whether an op refuses its arms: their widths differ, or one is a fill. Only select has any.
 pub fn arms_refused(op: Op, b: Header, c: Header) -> bool
     ensures { λ r. ⌜ r ≡ armsRefused op b c ⌝ }
@@ -109,7 +121,7 @@ pub fn result_header(op: Op, a: Header, b: Header, c: Header) -> Header
     ensures { λ r. ⌜ r ≡ opHeader op a b c ⌝ }
 {
     match family_of(op) {
-        Family::Join(j) => vectors::result_header(j, a, b),
+        Family::Join(j) => bitwise_words::result_header(j, a, b),
         Family::Not => Header {
             width: a.width,
             is_signed: a.is_signed,

@@ -4,29 +4,13 @@ use mathlib.Core.List.{List}
 use Prim.Native.Nat.{ℕ}
 use lib.ListN.{set}
 use Rattle.bit.specs.declared.LogicBit.{LogicBit}
-use Rattle.refusal.specs.Refusals.{refusalNumber}
 use Rattle.refusal.specs.Outcome.{Answer, Outcome, outcome, after, orRefuse}
-use Rattle.refusal.specs.Outcome.Answer.{given, refused}
+use Rattle.refusal.specs.Outcome.Answer.{given}
 use Rattle.words.specs.declared.Word.{Word}
-use Rattle.planes.specs.declared.BitAnswer.{BitAnswer}
-use Rattle.planes.specs.declared.BitAnswer.the-variants as bit-answer
-use Rattle.planes.specs.declared.WordAnswer.{WordAnswer}
-use Rattle.planes.specs.declared.WordAnswer.the-variants as word-answer
 use Rattle.words.specs.Vector.{at}
 use Rattle.words.specs.Planes.{masked, Planes, lent, vectorOf, planesOf}
-use Rattle.planecheck.specs.PlaneCheck.{checkLengths, checkPlanes}
+use Rattle.value.specs.Checks.{checkLengths, checkPlanes}
 use Rattle.bits.specs.Bits.{spliced, extracted}
-
--- the answers in the paper's numbers
-abbrev pub bitAnswer : BitAnswer → Answer LogicBit
-bitAnswer (bit-answer.Bit b) = given b
-bitAnswer (bit-answer.Refused r) = refused (refusalNumber r)
-
-abbrev pub wordAnswer : WordAnswer → Answer Word
-wordAnswer (word-answer.Bits w) = given w
-wordAnswer (word-answer.Refused r) = refused (refusalNumber r)
-
--- ---- the entries
 
 -- `get`: the bit; 0 at or above the width
 abbrev pub getBit : ℕ → Planes → ℕ → Answer LogicBit

@@ -1,45 +1,38 @@
-// A vector as two lent planes of 64-bit words, value and unknown. Bit i is bit i mod 64 of word i div 64 of each plane: 0 is stored as (0,0),
-// 1 as (1,0), x as (0,1) and z as (1,1). Bits at or above the width are 0.
+// A vector as two lent planes of 64-bit words, value and unknown. Bit i is bit i mod 64 of word i div 64 of each plane: 0 is stored as
+// (0,0), 1 as (1,0), x as (0,1) and z as (1,1). Bits at or above the width are 0.
 use bit::LogicBit;
-use planecheck::check_lengths;
-use planecheck::check_planes;
-use refusal::Refusal;
 use refusal::Verdict;
+use value::BitAnswer;
+use value::WordAnswer;
+use value::check_lengths;
+use value::check_planes;
 use words::Word;
 ghost use mathlib.Core.Path.{_≡_};
 ghost use Rattle.refusal.specs.Outcome.{outcome, verdict};
-ghost use Rattle.words.specs.Planes.{lent};
-ghost use Rattle.planes.specs.Entries.{bitAnswer, wordAnswer, getBit, setBit, spliceBits, extractBits, maskTop};
-
-pub enum BitAnswer {
-    Bit(LogicBit),
-    Refused(Refusal),
-}
-
-pub enum WordAnswer {
-    Bits(Word),
-    Refused(Refusal),
-}
+ghost use Rattle.words.specs.Planes.{lentBy};
+ghost use Rattle.planes.specs.Entries.{getBit, setBit, spliceBits, extractBits, maskTop};
+ghost use Rattle.value.specs.Answers.{bitAnswer, wordAnswer};
 
 // Bit i; 0 at or above the width.
 pub fn get(width: u32, value: &[u64], unknown: &[u64], i: usize) -> BitAnswer
-    ensures { λ r. ⌜ bitAnswer r ≡ getBit width (lent (now (value .entry)) (now (unknown .entry))) i ⌝ }
+    ensures { λ r. ⌜ bitAnswer r ≡ getBit width (lentBy (value .entry) (unknown .entry)) i ⌝ }
 {
     match check_planes(width, value, unknown) {
         Verdict::Refused(r) => BitAnswer::Refused(r),
-        Verdict::Accepted => BitAnswer::Bit(bits::inner::get(width, value, unknown, i)),
+        Verdict::Accepted => BitAnswer::Bit(bits::unchecked::get(width, value, unknown, i)),
     }
 }
 
 // Makes bit i the given bit; at or above the width nothing changes.
 pub fn set(width: u32, value: &mut [u64], unknown: &mut [u64], i: usize, bit: LogicBit) -> Verdict
-    ensures { λ r. ⌜ outcome (verdict r) (lent (now (value .exit)) (now (unknown .exit))) ≡ setBit width (lent (now (value .entry)) (now (unknown .entry))) i bit ⌝ }
+    ensures { λ r. ⌜ outcome (verdict r) (lentBy (value .exit) (unknown .exit))
+        ≡ setBit width (lentBy (value .entry) (unknown .entry)) i bit ⌝ }
 {
     match check_planes(width, value, unknown) {
         Verdict::Refused(r) => Verdict::Refused(r),
         Verdict::Accepted => {
-            let b = words::inner::filled(bit);
-            bits::inner::splice64(width, value, unknown, i, b, 1);
+            let b = words::unchecked::filled(bit);
+            bits::unchecked::splice64(width, value, unknown, i, b, 1);
             Verdict::Accepted
         }
     }
@@ -54,12 +47,13 @@ pub fn splice64(
     bits: Word,
     n: usize,
 ) -> Verdict
-    ensures { λ r. ⌜ outcome (verdict r) (lent (now (value .exit)) (now (unknown .exit))) ≡ spliceBits width (lent (now (value .entry)) (now (unknown .entry))) pos bits n ⌝ }
+    ensures { λ r. ⌜ outcome (verdict r) (lentBy (value .exit) (unknown .exit))
+        ≡ spliceBits width (lentBy (value .entry) (unknown .entry)) pos bits n ⌝ }
 {
     match check_planes(width, value, unknown) {
         Verdict::Refused(r) => Verdict::Refused(r),
         Verdict::Accepted => {
-            bits::inner::splice64(width, value, unknown, pos, bits, n);
+            bits::unchecked::splice64(width, value, unknown, pos, bits, n);
             Verdict::Accepted
         }
     }
@@ -67,11 +61,11 @@ pub fn splice64(
 
 // The n bits from `pos` on, at most 64; 0 beyond the width.
 pub fn extract64(width: u32, value: &[u64], unknown: &[u64], pos: usize, n: usize) -> WordAnswer
-    ensures { λ r. ⌜ wordAnswer r ≡ extractBits width (lent (now (value .entry)) (now (unknown .entry))) pos n ⌝ }
+    ensures { λ r. ⌜ wordAnswer r ≡ extractBits width (lentBy (value .entry) (unknown .entry)) pos n ⌝ }
 {
     match check_planes(width, value, unknown) {
         Verdict::Refused(r) => WordAnswer::Refused(r),
-        Verdict::Accepted => WordAnswer::Bits(bits::inner::extract64(
+        Verdict::Accepted => WordAnswer::Bits(bits::unchecked::extract64(
             width,
             value,
             unknown,
@@ -83,13 +77,14 @@ pub fn extract64(width: u32, value: &[u64], unknown: &[u64], pos: usize, n: usiz
 
 // Clears the bits at or above the width; at width 0 none.
 pub fn mask_top(width: u32, value: &mut [u64], unknown: &mut [u64]) -> Verdict
-    ensures { λ r. ⌜ outcome (verdict r) (lent (now (value .exit)) (now (unknown .exit))) ≡ maskTop width (lent (now (value .entry)) (now (unknown .entry))) ⌝ }
+    ensures { λ r. ⌜ outcome (verdict r) (lentBy (value .exit) (unknown .exit))
+        ≡ maskTop width (lentBy (value .entry) (unknown .entry)) ⌝ }
 {
     match check_lengths(width, value, unknown) {
         Verdict::Refused(r) => Verdict::Refused(r),
         Verdict::Accepted => {
-            words::inner::mask_plane(value, width);
-            words::inner::mask_plane(unknown, width);
+            words::unchecked::mask_plane(value, width);
+            words::unchecked::mask_plane(unknown, width);
             Verdict::Accepted
         }
     }

@@ -9,7 +9,7 @@ use Rattle.bit.specs.declared.LogicBit.{LogicBit}
 use Rattle.refusal.specs.Outcome.{Outcome, refuse}
 use Rattle.words.specs.Vector.{tabulate, bitAt}
 use Rattle.words.specs.Planes.{Planes, stored}
-use Rattle.planecheck.specs.PlaneCheck.{maxWidth}
+use Rattle.value.specs.Checks.{maxWidth}
 use Rattle.value.specs.declared.Header.{Header}
 use Rattle.value.specs.Checks.{plain, written}
 use Rattle.real.specs.declared.Scaled.{Scaled}

@@ -1,12 +1,12 @@
 // A real as a vector.
-use planecheck::MAX_WIDTH;
 use refusal::Refusal;
 use refusal::Verdict;
+use value::MAX_WIDTH;
 use value::VectorAnswer;
 use value::check_output;
 use value::plain_header;
-use words::inner::kept;
-use words::inner::ones;
+use words::unchecked::kept;
+use words::unchecked::ones;
 ghost use mathlib.Core.Path.{_≡_};
 ghost use mathlib.Core.Bool.{cond};
 ghost use Prim.Native.Nat.{_+_, _-_, _*_, _/_, _%_, _^_, _<_, max};
@@ -14,8 +14,8 @@ ghost use lib.ListN.{length};
 ghost use lib.Ieee as Ieee;
 ghost use lib.Ieee.{binary64};
 ghost use Rattle.refusal.specs.Outcome.{outcome};
-ghost use Rattle.words.specs.Planes.{wordCount, lent, planesOf};
-ghost use Rattle.value.specs.Checks.{vectorAnswer};
+ghost use Rattle.words.specs.Planes.{wordCount, lentBy, planesOf};
+ghost use Rattle.value.specs.Answers.{vectorAnswer};
 ghost use Rattle.real.specs.Round.{atHalf, wholeNear, scaled, rounded, realVector, fromReal};
 
 // A whole number: digits * 2^shift, below zero if negative.
@@ -131,7 +131,7 @@ fn signed_word(negative: bool, zeros: bool, word: u64) -> u64
 // Writes a real as a vector of the width.
 fn write_real(f: f64, width: u32, value: &mut [u64], unknown: &mut [u64])
     requires { ⌜ (length (now value) ≡ wordCount width) × (length (now unknown) ≡ wordCount width) ⌝ }
-    ensures { λ _. ⌜ lent (now (value .exit)) (now (unknown .exit)) ≡ planesOf (realVector width f) ⌝ }
+    ensures { λ _. ⌜ lentBy (value .exit) (unknown .exit) ≡ planesOf (realVector width f) ⌝ }
 {
     let r = rounded_real(f);
     let negative = r.negative;
@@ -158,7 +158,8 @@ fn at_least_one(width: u32) -> u32
 
 // A real as an unsigned vector: rounded, half away from zero, modulo 2 to the width, which is at least 1. Infinite and NaN give 0.
 pub fn from_real_wrapped(f: f64, width: u32, value: &mut [u64], unknown: &mut [u64]) -> VectorAnswer
-    ensures { λ r. ⌜ outcome (vectorAnswer r) (lent (now (value .exit)) (now (unknown .exit))) ≡ fromReal f width (lent (now (value .entry)) (now (unknown .entry))) ⌝ }
+    ensures { λ r. ⌜ outcome (vectorAnswer r) (lentBy (value .exit) (unknown .exit))
+        ≡ fromReal f width (lentBy (value .entry) (unknown .entry)) ⌝ }
 {
     if MAX_WIDTH < width {
         return VectorAnswer::Refused(Refusal::TooWide);

@@ -13,7 +13,7 @@ use Rattle.bit.specs.declared.LogicBit.{LogicBit}
 use Rattle.words.specs.Vector.{tabulate, at, pack}
 use Rattle.words.specs.Planes.{valueDigit, unknownDigit, wordOf, wordAt, packed}
 use Rattle.text.specs.Answers.{bitsIn}
-use Rattle.charplanes.proofs.Characters.{word-at}
+use Rattle.text.proofs.Characters.{word-at}
 use Rattle.replay.specs.Fields.{bitsOf}
 
 set-suc : (F : ℕ → ℕ) (k : ℕ) (p : List ℕ) → k < length p → set (tabulate k F ++ drop k p) k (F k) ≡ tabulate (suc k) F ++ drop (suc k) p

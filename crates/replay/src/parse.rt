@@ -1,9 +1,9 @@
 // The parts of a line, numbers, reals and vectors as text.
-use charplanes::inner::read_word;
 use check::same;
+use text::unchecked::read_word;
 use value::Header;
 use words::Word;
-use words::inner::least;
+use words::unchecked::least;
 ghost use mathlib.Core.Path.{_≡_};
 ghost use mathlib.Core.Bool.{cond};
 ghost use Prim.Native.Nat.{_≤_, max};
@@ -80,7 +80,9 @@ pub(crate) fn number_of(name: &[u8]) -> usize
     ensures { λ r. ⌜ r ≡ nameFrom 0 26 callNames (now (name .entry)) ⌝ }
 {
     number_in(
-        b"get extract64 set splice64 splice_bits64 mask_top new zero from_u64 from_real_wrapped reduce_and reduce_or reduce_xor is_nonzero logic_and logic_or is_equal case_eq casez_eq casex_eq wildcard_eq bitwise_and bitwise_or bitwise_xor merge_unknown bitwise_not",
+        b"get extract64 set splice64 splice_bits64 mask_top new zero from_u64 from_real_wrapped \
+        reduce_and reduce_or reduce_xor is_nonzero logic_and logic_or is_equal case_eq casez_eq casex_eq wildcard_eq \
+        bitwise_and bitwise_or bitwise_xor merge_unknown bitwise_not",
         26,
         name,
     )
@@ -118,7 +120,8 @@ fn word_of(w: Word, is_unknown: bool) -> u64
 // Fills the first n words of a plane with the bits' unknown digits or their value digits; above the bits they are 0.
 pub(crate) fn load(bits: &[u8], is_unknown: bool, plane: &mut [u64], n: usize)
     requires { ⌜ n ≤ length (now plane) ⌝ }
-    ensures { λ _. ⌜ now (plane .exit) ≡ loaded «is_unknown» (bitsOf (now (bits .entry))) n (now (plane .entry)) ⌝ }
+    ensures { λ _. ⌜ now (plane .exit)
+        ≡ loaded «is_unknown» (bitsOf (now (bits .entry))) n (now (plane .entry)) ⌝ }
 {
     let mut left = bits.len();
     let mut k = 0;

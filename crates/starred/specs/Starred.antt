@@ -9,10 +9,10 @@ use Rattle.bit.specs.declared.LogicBit.{LogicBit}
 use Rattle.bit.specs.Rules.{ofCode}
 use Rattle.value.specs.Checks.{Vector}
 use Rattle.lanes.specs.declared.Bitwise.the-variants.{And, Or, Xor, Merge}
-use Rattle.join.specs.Joined.{joined, inverted}
-use Rattle.fold.specs.Fold.{reduceAnd, reduceOr, reduceXor}
-use Rattle.scan.specs.declared.Comparison.the-variants.{Equal, CaseEqual, CasezEqual, WildcardEqual}
-use Rattle.scan.specs.Compared.{compared}
+use Rattle.bitwise_words.specs.Joined.{joined, inverted}
+use Rattle.reduce_words.specs.Fold.{reduceAnd, reduceOr, reduceXor}
+use Rattle.compare_words.specs.declared.Comparison.the-variants.{Equal, CaseEqual, CasezEqual, WildcardEqual}
+use Rattle.compare_words.specs.Compared.{compared}
 
 abbrev x : ℕ
 x = 2

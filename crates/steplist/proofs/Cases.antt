@@ -7,7 +7,7 @@ use Rattle.refusal.specs.Outcome.Answer.{given}
 use Rattle.value.specs.Checks.{plain}
 use Rattle.ops.specs.declared.Op.the-variants.{And, ReduceOr}
 use Rattle.text.specs.Read.{key, more, number, numberLine, named, oneOf, isBit, ofByte, bit, bits, bitsLine, many}
-use Rattle.opline.specs.OpLine.{nameLine, choiceLine, opLine}
+use Rattle.steplist.specs.OpLine.{nameLine, choiceLine, opLine}
 use Rattle.steplist.specs.Listing.{StepList, input, numbers, step, list, whole}
 
 abbrev standardInput : List ℕ

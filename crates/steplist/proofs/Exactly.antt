@@ -20,8 +20,8 @@ use Rattle.value.specs.declared.Header.{Header}
 use Rattle.value.specs.Checks.{Vector}
 use Rattle.ops.specs.declared.Op.{Op}
 use Rattle.ops.specs.declared.Step.{Step}
-use Rattle.opline.specs.OpLine.{choiceLine, largest}
-use Rattle.opline.proofs.Names.{choice-exact, op-exact}
+use Rattle.steplist.specs.OpLine.{choiceLine, largest}
+use Rattle.steplist.proofs.Names.{choice-exact, op-exact}
 use Rattle.steplist.specs.Listing.{StepList, Kind, unsigned, signed, fill, allKinds, kindName, kindHeader, kindOf, widthKey, kindKey, input, inputText, InputWithin, aKey, bKey, cKey, numbers, step, stepText, StepWithin, inputsKey, stepsKey, list, listText, InLimits, readToEnd, whole, WholeExactly}
 
 -- ---- a value made of what was read last

@@ -1,3 +1,4 @@
+pub mod Names
 pub mod Exactly
 pub mod Parts
 pub mod Listed

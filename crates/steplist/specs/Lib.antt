@@ -1,2 +1,3 @@
+pub mod OpLine
 pub mod Listing
 pub mod Answers

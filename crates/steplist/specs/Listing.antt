@@ -17,7 +17,8 @@ use Rattle.value.specs.declared.Header.{Header}
 use Rattle.value.specs.Checks.{Vector}
 use Rattle.ops.specs.declared.Op.{Op}
 use Rattle.ops.specs.declared.Step.{Step}
-use Rattle.opline.specs.OpLine.{choiceLine, opKey, opName, opLine, largest}
+use Rattle.steplist.specs.OpLine.{choiceLine, opKey, opLine, largest}
+use Rattle.ops.specs.Names.{opName}
 
 -- a list: its inputs and its steps, in order
 pub record StepList : Type 0 where

@@ -1,15 +1,19 @@
 // A step list, read whole and strictly: the inputs with the places of their bits in the text, and the steps.
 use ops::Op;
 use ops::Step;
+use ops::number_count;
+use ops::unchecked::op_at;
 use refusal::Refusal;
 use refusal::Verdict;
+use text::unchecked::one_of;
 use value::Header;
 ghost use mathlib.Core.Path.{_≡_};
 ghost use Prim.Native.Nat.{_≤_};
 ghost use lib.ListN.{drop};
 ghost use Rattle.text.specs.Answers.{gotAt};
+ghost use Rattle.steplist.specs.OpLine.{opLine, largest as largestOf};
 ghost use Rattle.steplist.specs.Listing.{input, step, whole};
-ghost use Rattle.steplist.specs.Answers.{inputIn, inputsIn, stepsIn, manyAt, listAnswer};
+ghost use Rattle.steplist.specs.Answers.{opIn, inputIn, inputsIn, stepsIn, manyAt, listAnswer};
 
 // An input: its header, and the place in the text where its bits stand, highest first.
 pub struct Input {
@@ -29,6 +33,12 @@ pub struct StepList {
 pub struct ListAnswer {
     pub verdict: Verdict,
     pub list: StepList,
+}
+
+// An op and the place behind its line.
+struct OpRead {
+    op: Op,
+    next: usize,
 }
 
 // An input, and the place behind its lines.
@@ -73,10 +83,11 @@ const NO_STEP: Step = Step {
 
 // The three lines of an input.
 fn read_input(s: &[u8], at: usize) -> InputRead
-    ensures { λ r. ⌜ gotAt (now (s .entry)) (inputIn (now (s .entry)) (r .input)) (r .next) ≡ input (drop at (now (s .entry))) ⌝ }
+    ensures { λ r. ⌜ gotAt (now (s .entry)) (inputIn (now (s .entry)) (r .input)) (r .next)
+        ≡ input (drop at (now (s .entry))) ⌝ }
 {
     let width = text::number_line(s, at, b"width=", 4096);
-    let kind = text::inner::one_of(s, width.next, b"kind=u\nkind=s\nkind=f\n");
+    let kind = one_of(s, width.next, b"kind=u\nkind=s\nkind=f\n");
     let next = text::bits_line(s, kind.next, b"bits=", width.number);
     let header = Header {
         width: width.number,
@@ -95,7 +106,8 @@ fn read_input(s: &[u8], at: usize) -> InputRead
 // n inputs.
 fn read_inputs(s: &[u8], at: usize, n: usize) -> InputsRead
     requires { ⌜ n ≤ 64 ⌝ }
-    ensures { λ r. ⌜ gotAt (now (s .entry)) (inputsIn (now (s .entry)) n (r .inputs)) (r .next) ≡ manyAt (now (s .entry)) input n at ⌝ }
+    ensures { λ r. ⌜ gotAt (now (s .entry)) (inputsIn (now (s .entry)) n (r .inputs)) (r .next)
+        ≡ manyAt (now (s .entry)) input n at ⌝ }
 {
     let mut inputs = [NO_INPUT; 64];
     let mut i = 0;
@@ -110,15 +122,38 @@ fn read_inputs(s: &[u8], at: usize, n: usize) -> InputsRead
     InputsRead { inputs, next: p }
 }
 
+// The line op=: the op that has the name, and the place behind the line.
+fn op_line(s: &[u8], at: usize) -> OpRead
+    ensures { λ r. ⌜ r ≡ opIn (now (s .entry)) (opLine (drop at (now (s .entry)))) ⌝ }
+{
+    let line = one_of(
+        s,
+        at,
+        b"op=and\nop=or\nop=xor\nop=not\nop=mrg\nop=rand\nop=ror\nop=rxor\n\
+        op=eq\nop=ceq\nop=cz\nop=cx\nop=weq\nop=land\nop=lor\nop=sel\nop=ins\n",
+    );
+    OpRead {
+        op: op_at(line.number as usize),
+        next: line.next,
+    }
+}
+
+// The largest number that the i-th of a, b and c may be, from 0: an unused one is 0.
+fn largest(op: Op, i: usize) -> u32
+    ensures { λ r. ⌜ r ≡ largestOf op i ⌝ }
+{
+    if i < number_count(op) { 4294967295 } else { 0 }
+}
+
 // The four lines of a step.
 fn read_step(s: &[u8], at: usize) -> StepRead
     ensures { λ r. ⌜ gotAt (now (s .entry)) (r .step) (r .next) ≡ step (drop at (now (s .entry))) ⌝ }
 {
-    let o = opline::op_line(s, at);
+    let o = op_line(s, at);
     let op = o.op;
-    let a = text::number_line(s, o.next, b"a=", opline::largest(op, 0));
-    let b = text::number_line(s, a.next, b"b=", opline::largest(op, 1));
-    let c = text::number_line(s, b.next, b"c=", opline::largest(op, 2));
+    let a = text::number_line(s, o.next, b"a=", largest(op, 0));
+    let b = text::number_line(s, a.next, b"b=", largest(op, 1));
+    let c = text::number_line(s, b.next, b"c=", largest(op, 2));
     StepRead {
         step: Step {
             op,
@@ -133,7 +168,8 @@ fn read_step(s: &[u8], at: usize) -> StepRead
 // n steps.
 fn read_steps(s: &[u8], at: usize, n: usize) -> StepsRead
     requires { ⌜ n ≤ 256 ⌝ }
-    ensures { λ r. ⌜ gotAt (now (s .entry)) (stepsIn n (r .steps)) (r .next) ≡ manyAt (now (s .entry)) step n at ⌝ }
+    ensures { λ r. ⌜ gotAt (now (s .entry)) (stepsIn n (r .steps)) (r .next)
+        ≡ manyAt (now (s .entry)) step n at ⌝ }
 {
     let mut steps = [NO_STEP; 256];
     let mut i = 0;

@@ -1,7 +1,4 @@
 pub mod Turns
-pub mod Plain
-pub mod Inputs
+pub mod Thin
+pub mod Shown
 pub mod Loops
-pub mod Refinement
-pub mod Demand
-pub mod Case

@@ -10,16 +10,15 @@ use Rattle.refusal.specs.Outcome.{Answer, Outcome, outcome, orRefuse}
 use Rattle.refusal.specs.Outcome.Answer.{given, refused}
 use Rattle.words.specs.Vector.{tabulate}
 use Rattle.lines.specs.Buffer.{Buffer, buffer, put}
-use Rattle.output.specs.Output.{doneText}
+use Rattle.run_lines.specs.Output.{cellText, doneText, refusedText}
 use Rattle.ops.specs.declared.Step.{Step}
 use Rattle.machine.specs.Machine.{AtEnd, RefusedAt}
 use Rattle.store.specs.Step.{Memory, checkMemory, stepVector, stepped, addStep}
-use Rattle.turn.specs.Turn.{resultText}
 use Rattle.steps.specs.Run.{runSteps, final, finalOf}
 use Rattle.inputs.specs.Limits.{AllThin}
 use Rattle.steps.proofs.Turns.{steps-done, step-turn, step-last}
 use Rattle.inputs.proofs.Thin.{thin-put}
-use Rattle.turn.proofs.Thin.{step-thin}
+use Rattle.steps.proofs.Thin.{step-thin}
 use Rattle.inputs.proofs.Loops.{next-one, none-left}
 
 stepped-thin : (m : Memory) (step : Step) → AllThin (m .state .store) → AllThin (addStep m step .left .state .store)
@@ -49,7 +48,7 @@ module _ (n : ℕ) (f : ℕ → Step) (from : Memory) (out : List ℕ) where
   walk-start p t = record { places = p; thin = t; short = omega arith; long = refl; left = refl }
 
   module _ (m : Memory) (d : List ℕ) (at k : ℕ) (h : Walked from out n f m d at k) where
-    pub walk-done : n ≤ k → finalOf (runSteps from 0 (tabulate n f)) (buffer out 0) ≡ final m (put (buffer d at) (doneText k)) AtEnd
+    pub walk-done : n ≤ k → finalOf (runSteps from 0 (tabulate n f)) (buffer out 0) ≡ final m (put (buffer d at) (doneText k)) (AtEnd k)
     walk-done l = h .left ∙ ap (λ ss. finalOf (runSteps m k ss) (buffer d at)) (none-left n f k l) ∙ steps-done m k d at
 
     module _ (l : k < n) where
@@ -59,15 +58,12 @@ module _ (n : ℕ) (f : ℕ → Step) (from : Memory) (out : List ℕ) where
       onto-step : finalOf (runSteps from 0 (tabulate n f)) (buffer out 0) ≡ finalOf (runSteps m k (f k ∷ rest)) (buffer d at)
       onto-step = h .left ∙ ap (λ ss. finalOf (runSteps m k ss) (buffer d at)) (next-one n f k l)
 
-      module _ (a : Answer ℕ) (t : Memory) (e : List ℕ) (j : ℕ) (called : outcome a t ≡ addStep m (f k))
-          (shown : buffer e j ≡ put (buffer d at) (resultText a k (stepVector (m .state) (f k) .bits))) where
-        pub walk-more : (c : ℕ) → a ≡ given c → at ≤ length d → j ≤ at + 4111 → length e ≡ length d → Walked from out n f t e j (k + 1)
-        walk-more c g inside short same =
+      module _ (a : Answer ℕ) (t : Memory) (e : List ℕ) (j : ℕ) (called : outcome a t ≡ addStep m (f k)) where
+        pub walk-more : (c : ℕ) → a ≡ given c → buffer e j ≡ put (buffer d at) (cellText c (stepVector (m .state) (f k) .bits))
+            → at ≤ length d → j ≤ at + 4111 → length e ≡ length d → Walked from out n f t e j (k + 1)
+        walk-more c g shown inside short same =
             let left : addStep m (f k) .left ≡ t = sym (ap (λ (o : Outcome ℕ Memory). o .left) called) in
             let answer : addStep m (f k) .answer ≡ given c = sym (ap (λ (o : Outcome ℕ Memory). o .answer) called) ∙ g in
-            let text : put (buffer d at) (resultText (given c) k (stepVector (m .state) (f k) .bits)) ≡ buffer e j =
-            sym (shown ∙ ap (λ x. put (buffer d at) (resultText x k (stepVector (m .state) (f k) .bits))) g)
-            in
             record {
               places = subst (λ (z : Memory). length (z .state .store .cells) ≡ 320) left (stepped-places m (f k) (h .places));
               thin = subst (λ (z : Memory). AllThin (z .state .store)) left (stepped-thin m (f k) (h .thin));
@@ -76,15 +72,16 @@ module _ (n : ℕ) (f : ℕ → Step) (from : Memory) (out : List ℕ) where
               left =
                   onto-step
                   ∙ step-turn m k d at (f k) rest c answer inside
-                  ∙ ap₂ (λ (z : Memory) (b : Buffer). finalOf (runSteps z (suc k) rest) b) left text
+                  ∙ ap₂ (λ (z : Memory) (b : Buffer). finalOf (runSteps z (suc k) rest) b) left (sym shown)
                   ∙ ap (λ (i : ℕ). finalOf (runSteps t i rest) (buffer e j)) (sym (add-one k));
             }
 
-        pub walk-last : (r : ℕ) → a ≡ refused r → finalOf (runSteps from 0 (tabulate n f)) (buffer out 0) ≡ final t (buffer e j) (RefusedAt r (k + 1))
-        walk-last r g =
+        pub walk-last : (r : ℕ) → a ≡ refused r → buffer e j ≡ put (buffer d at) (refusedText r (k + 1))
+            → finalOf (runSteps from 0 (tabulate n f)) (buffer out 0) ≡ final t (buffer e j) (RefusedAt r (k + 1))
+        walk-last r g shown =
             let left : addStep m (f k) .left ≡ t = sym (ap (λ (o : Outcome ℕ Memory). o .left) called) in
             let answer : addStep m (f k) .answer ≡ refused r = sym (ap (λ (o : Outcome ℕ Memory). o .answer) called) ∙ g in
             onto-step
             ∙ step-last m k d at (f k) rest r answer
-            ∙ ap₂ (λ z b. final z b (RefusedAt r (suc k))) left (sym (shown ∙ ap (λ x. put (buffer d at) (resultText x k (stepVector (m .state) (f k) .bits))) g))
-            ∙ ap (λ i. final t (buffer e j) (RefusedAt r i)) (sym (add-one k))
+            ∙ ap (λ i. final (addStep m (f k) .left) (put (buffer d at) (refusedText r i)) (RefusedAt r i)) (sym (add-one k))
+            ∙ ap₂ (λ z b. final z b (RefusedAt r (k + 1))) left (sym shown)

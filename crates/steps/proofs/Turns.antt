@@ -8,14 +8,14 @@ use lib.ListN.{length}
 use Rattle.refusal.specs.Outcome.Answer.{given, refused}
 use Rattle.lines.specs.Buffer.{buffer, put}
 use Rattle.lines.proofs.Put.{put-put}
-use Rattle.output.specs.Output.{cellText, doneText, refusedText}
+use Rattle.run_lines.specs.Output.{cellText, doneText, refusedText}
 use Rattle.ops.specs.declared.Step.{Step}
 use Rattle.machine.specs.Machine.{AtEnd, RefusedAt}
 use Rattle.store.specs.Step.{Memory, addStep, stepVector}
 use Rattle.steps.specs.Run.{afterStep, runSteps, final, finalOf}
 
 module _ (m : Memory) (k : ℕ) (d : List ℕ) (i : ℕ) where
-  pub steps-done : finalOf (runSteps m k []) (buffer d i) ≡ final m (put (buffer d i) (doneText k)) AtEnd
+  pub steps-done : finalOf (runSteps m k []) (buffer d i) ≡ final m (put (buffer d i) (doneText k)) (AtEnd k)
   unfolding runSteps
   steps-done = refl
 

@@ -1,3 +1,1 @@
 pub mod Run
-pub mod Demand
-pub mod Refinement

@@ -6,16 +6,14 @@ use Rattle.bit.specs.declared.LogicBit.{LogicBit}
 use Rattle.refusal.specs.Refusals.{refusalNumber}
 use Rattle.refusal.specs.Outcome.{Answer}
 use Rattle.refusal.specs.Outcome.Answer.{given, refused}
-use Rattle.words.specs.Planes.{Planes, lent}
+use Rattle.words.specs.Planes.{Planes}
 use Rattle.lines.specs.Buffer.{Buffer, buffer, put}
-use Rattle.output.specs.Output.{doneText, refusedText}
+use Rattle.run_lines.specs.Output.{cellText, doneText, refusedText}
 use Rattle.ops.specs.declared.Step.{Step}
 use Rattle.machine.specs.Machine.{Ending, AtEnd, RefusedAt}
-use Rattle.store.specs.declared.Store.{Store}
 use Rattle.store.specs.Store.{state, emptyStore}
-use Rattle.store.specs.Step.{Memory, memory, addStep, stepVector}
+use Rattle.store.specs.Step.{Memory, memory, memoryBy, addStep, stepVector}
 use Rattle.inputs.specs.Inputs.{addInputs}
-use Rattle.turn.specs.Turn.{resultText}
 use Rattle.steplist.specs.Listing.{StepList, whole}
 use Rattle.steps.specs.declared.RunEnding.{RunEnding}
 use Rattle.steps.specs.declared.RunEnding.the-variants as run-ending
@@ -31,28 +29,28 @@ abbrev pub ran : Memory → List ℕ → Ending → Ran
 ran m t e = record { memory = m; text = t; ending = e }
 
 -- the last lines tell how the run ended: done= and the number of steps run, or refused= and step=
-abbrev pub endText : Ending → ℕ → List ℕ
-endText AtEnd k = doneText k
-endText (RefusedAt n step) k = refusedText n step
+abbrev pub endText : Ending → List ℕ
+endText (AtEnd k) = doneText k
+endText (RefusedAt n step) = refusedText n step
 
--- a run that ends behind k steps
-abbrev pub ended : Memory → ℕ → Ending → Ran
-ended m k e = ran m (endText e k) e
+-- a run that ends here
+abbrev pub ended : Memory → Ending → Ran
+ended m e = ran m (endText e) e
 
 -- a refusal of the file or of an input leaves the memory as it found it
 abbrev pub refusedFirst : Memory → ℕ → Ran
-refusedFirst m n = ended m 0 (RefusedAt n 0)
+refusedFirst m n = ended m (RefusedAt n 0)
 
 -- ---- the steps
 
 -- a refused step is the run's last; the lines of the others come before those of the steps behind them
 abbrev pub afterStep : Answer ℕ → Memory → ℕ → List LogicBit → Ran → Ran
-afterStep (given n) left k bits rest = ran (rest .memory) (resultText (given n) k bits ++ rest .text) (rest .ending)
-afterStep (refused n) left k bits rest = ended left k (RefusedAt n (suc k))
+afterStep (given n) left k bits rest = ran (rest .memory) (cellText n bits ++ rest .text) (rest .ending)
+afterStep (refused n) left k bits rest = ended left (RefusedAt n (suc k))
 
 -- the steps of a list, behind k steps that were run
 unfoldable pub runSteps : Memory → ℕ → List Step → Ran
-runSteps m k [] = ended m k AtEnd
+runSteps m k [] = ended m (AtEnd k)
 runSteps m k (s ∷ ss) =
     let left = addStep m s .left in
     afterStep (addStep m s .answer) left k (stepVector (m .state) s .bits) (runSteps left (suc k) ss)
@@ -85,7 +83,7 @@ runText arenas scratch t = runWhole (emptied arenas scratch) (whole t)
 
 -- the ending in the paper's numbers
 abbrev pub endingOf : RunEnding → Ending
-endingOf run-ending.Done = AtEnd
+endingOf (run-ending.Done k) = AtEnd k
 endingOf (run-ending.Refused r step) = RefusedAt (refusalNumber r) step
 
 -- all that `run` leaves: the memory, its text at the front of the buffer, whose further bytes stay, and how it ended
@@ -100,12 +98,6 @@ final m b e = record { memory = m; out = b; ending = e }
 abbrev pub finalOf : Ran → Buffer → Final
 finalOf r b = final (r .memory) (put b (r .text)) (r .ending)
 
--- two lent planes, a memory that is lent, and what a run leaves of it, by the references
-abbrev pub lentBy : (value unknown : RefT (List ℕ)) → Planes
-lentBy v u = lent (now v) (now u)
-
-abbrev pub memoryBy : Store → (av au sv su : RefT (List ℕ)) → Memory
-memoryBy s av au sv su = memory (state s (lentBy av au)) (lentBy sv su)
-
+-- by the references
 abbrev pub finalBy : RunAnswer → (av au sv su out : RefT (List ℕ)) → Final
 finalBy r av au sv su out = final (memoryBy (r .store) av au sv su) (buffer (now out) (r .length)) (endingOf (r .ending))

@@ -1,19 +1,21 @@
-// A step list, run: its text is read whole, its inputs and steps are added to an empty store, and the lines that it writes stand in a buffer.
-use inputs::inner::add_inputs;
-use output::inner::put_refused;
+// A step list, run: its text is read whole, its inputs and steps are added to an empty store, and the lines that it writes stand in a
+// buffer.
+use inputs::unchecked::add_inputs;
 use refusal::Refusal;
 use refusal::Verdict;
+use run_lines::unchecked::put_refused;
 use steplist::read_list;
 use store::Store;
 ghost use mathlib.Core.Path.{_≡_};
+ghost use Rattle.words.specs.Planes.{lentBy};
 ghost use Rattle.lines.specs.Buffer.{buffer};
-ghost use Rattle.steps.specs.Run.{runText, finalOf, lentBy, finalBy};
+ghost use Rattle.steps.specs.Run.{runText, finalOf, finalBy};
 
-pub mod inner;
+pub mod unchecked;
 
-// How a run ended: with every step run, or by a refusal at a step, counted from 1; 0 is the text or an input.
+// How a run ended: with every step run, and how many that are, or by a refusal at a step, counted from 1; 0 is the text or an input.
 pub enum RunEnding {
-    Done,
+    Done(u32),
     Refused(Refusal, u32),
 }
 
@@ -24,20 +26,21 @@ pub struct RunAnswer {
     pub ending: RunEnding,
 }
 
-// Runs the step list that stands in `text`, from an empty store. The buffer has room for the lines of 256 steps of 4,096 bits and of a refusal.
+// Runs the step list that stands in `text`, from an empty store. The buffer has room for the lines of 256 steps of 4,096 bits and of a
+// refusal.
 pub fn run(
     text: &[u8],
-    arena_value: &mut [u64],
-    arena_unknown: &mut [u64],
-    scratch_value: &mut [u64],
-    scratch_unknown: &mut [u64],
+    av: &mut [u64],
+    au: &mut [u64],
+    sv: &mut [u64],
+    su: &mut [u64],
     out: &mut [u8; 1052436],
 ) -> RunAnswer
-    ensures { λ r. ⌜ finalBy r («arena_value» .exit) («arena_unknown» .exit) («scratch_value» .exit) («scratch_unknown» .exit) (out .exit)
+    ensures { λ r. ⌜ finalBy r (av .exit) (au .exit) (sv .exit) (su .exit) (out .exit)
         ≡ finalOf
         (runText
-        (lentBy («arena_value» .entry) («arena_unknown» .entry))
-        (lentBy («scratch_value» .entry) («scratch_unknown» .entry))
+        (lentBy (av .entry) (au .entry))
+        (lentBy (sv .entry) (su .entry))
         (now (text .entry)))
         (buffer (now (out .entry)) 0) ⌝ }
 {
@@ -53,7 +56,7 @@ pub fn run(
             }
         }
         Verdict::Accepted => {
-            let fed = add_inputs(a.list, text, arena_value, arena_unknown);
+            let fed = add_inputs(a.list, text, av, au);
             let s = fed.store;
             let fed_verdict = fed.verdict;
             match fed_verdict {
@@ -65,15 +68,7 @@ pub fn run(
                         ending: RunEnding::Refused(q, 0),
                     }
                 }
-                Verdict::Accepted => inner::run_steps(
-                    a.list,
-                    s,
-                    arena_value,
-                    arena_unknown,
-                    scratch_value,
-                    scratch_unknown,
-                    out,
-                ),
+                Verdict::Accepted => unchecked::run_steps(a.list, s, av, au, sv, su, out),
             }
         }
     }

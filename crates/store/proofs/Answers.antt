@@ -10,7 +10,7 @@ use Rattle.refusal.specs.Outcome.{Answer, after}
 use Rattle.refusal.specs.Outcome.Answer.{given, refused}
 use Rattle.words.specs.Planes.{Planes, Plane, clearAbove}
 use Rattle.words.proofs.Top.{clear-all}
-use Rattle.planecheck.specs.PlaneCheck.{maxWidth, checkLengths, checkPlanes}
+use Rattle.value.specs.Checks.{maxWidth, checkLengths, checkPlanes}
 use Rattle.value.specs.declared.Header.{Header}
 use Rattle.value.specs.Checks.{checkVector}
 use Rattle.value.proofs.Checks.{Sound}

@@ -19,7 +19,7 @@ use Rattle.refusal.specs.Outcome.{Answer, outcome, after, orRefuse}
 use Rattle.refusal.specs.Outcome.Answer.{given, refused}
 use Rattle.words.specs.Planes.{wordCount, valuePlane, unknownPlane, Plane, Planes, lent, planesOf}
 use Rattle.words.proofs.Planes.{length-tabulate}
-use Rattle.planecheck.proofs.Checks.{Checked}
+use Rattle.value.proofs.Checks.{Checked}
 use Rattle.value.specs.declared.Header.{Header}
 use Rattle.value.specs.Checks.{Vector, vector}
 use Rattle.value.proofs.Checks.{Sound}

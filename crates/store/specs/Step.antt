@@ -1,14 +1,17 @@
 -- Document 01, "Cell store", "Step list" and "Numbers for what is not done": what adding a step does to the store, its arenas and the two lent
 -- scratch planes.
+use mathlib.Core.List.{List}
 use Prim.Native.Nat.{ℕ}
+use denote.Ref.{RefT}
 use Rattle.refusal.specs.Outcome.{Answer, Outcome, outcome, after, orRefuse}
 use Rattle.refusal.specs.Outcome.Answer.{given}
-use Rattle.words.specs.Planes.{Planes, planesOf}
+use Rattle.words.specs.Planes.{Planes, lentBy, planesOf}
 use Rattle.value.specs.Checks.{Vector}
 use Rattle.ops.specs.declared.Step.{Step}
 use Rattle.machine.specs.Machine.{checkStep, stepCell}
 use Rattle.cells.specs.Cells.{putPlanes}
-use Rattle.store.specs.Store.{State, storeHeaders, cellsOf, checkStore, roomOf, appended}
+use Rattle.store.specs.declared.Store.{Store}
+use Rattle.store.specs.Store.{State, stateBy, storeHeaders, cellsOf, checkStore, roomOf, appended}
 
 -- all that a call can change: the store, its arenas, and the scratch planes
 pub record Memory : Type 0 where
@@ -17,6 +20,10 @@ pub record Memory : Type 0 where
 
 abbrev pub memory : State → Planes → Memory
 memory s p = record { state = s; scratch = p }
+
+-- by the references
+abbrev pub memoryBy : Store → (av au sv su : RefT (List ℕ)) → Memory
+memoryBy s av au sv su = memory (stateBy s av au) (lentBy sv su)
 
 -- 14, then 12, 11, 7 and 13, which go by the headers of the filled cells
 abbrev pub checkMemory : Memory → Step → Answer Unit

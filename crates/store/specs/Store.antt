@@ -4,11 +4,12 @@ use mathlib.Core.Path.{_≡_}
 use mathlib.Core.Bool.{Bool, true}
 use mathlib.Core.List.{List, [], map}
 use Prim.Native.Nat.{ℕ, _+_, min}
+use denote.Ref.{RefT}
 use lib.ListN.{length, take, set, replicate}
 use Rattle.refusal.specs.Refusals.{refusalNumber}
 use Rattle.refusal.specs.Outcome.{Answer, Outcome, outcome, after, orRefuse}
 use Rattle.refusal.specs.Outcome.Answer.{given, refused}
-use Rattle.words.specs.Planes.{Planes, lent, planesOf}
+use Rattle.words.specs.Planes.{Planes, lent, lentBy, planesOf}
 use Rattle.value.specs.declared.Header.{Header}
 use Rattle.value.specs.Checks.{Vector, vector, checkVector}
 use Rattle.machine.specs.Machine.{Room, checkCount, checkRoom}
@@ -34,6 +35,10 @@ pub record State : Type 0 where
 
 abbrev pub state : Store → Planes → State
 state s a = record { store = s; arenas = a }
+
+-- by the references
+abbrev pub stateBy : Store → (av au : RefT (List ℕ)) → State
+stateBy s av au = state s (lentBy av au)
 
 unfoldable pub emptyStore : Store
 emptyStore = record { cells = replicate 320 noCell; count = 0 }

@@ -1,11 +1,11 @@
-// The cell store: at most 320 vectors, numbered from 0, whose words lie one behind the other in two lent arenas. The store goes in by value and
-// comes back by value, inside the answer.
+// The cell store: at most 320 vectors, numbered from 0, whose words lie one behind the other in two lent arenas. The store goes in by
+// value and comes back by value, inside the answer.
 use cells::Cell;
-use cells::inner::work_cells;
+use cells::unchecked::work_cells;
 use layout::PlaceAnswer;
 use layout::StepAnswer;
-use layout::inner::check_cells;
-use layout::inner::place_step;
+use layout::unchecked::check_cells;
+use layout::unchecked::place_step;
 use ops::Step;
 use refusal::Refusal;
 use refusal::Verdict;
@@ -15,11 +15,11 @@ use value::plain_header;
 use words::word_count;
 ghost use mathlib.Core.Path.{_≡_};
 ghost use Rattle.refusal.specs.Outcome.{outcome};
-ghost use Rattle.words.specs.Planes.{lent};
-ghost use Rattle.store.specs.Store.{state, emptyStore, cellAnswer, addInput};
-ghost use Rattle.store.specs.Step.{memory, addStep};
+ghost use Rattle.words.specs.Planes.{lentBy};
+ghost use Rattle.store.specs.Store.{stateBy, emptyStore, cellAnswer, addInput};
+ghost use Rattle.store.specs.Step.{memoryBy, addStep};
 
-pub mod inner;
+pub mod unchecked;
 
 // The first `count` cells are filled.
 pub struct Store {
@@ -60,13 +60,14 @@ impl Store {
         h: Header,
         value: &[u64],
         unknown: &[u64],
-        arena_value: &mut [u64],
-        arena_unknown: &mut [u64],
+        av: &mut [u64],
+        au: &mut [u64],
     ) -> Stored
-        ensures { λ r. ⌜ outcome (cellAnswer (r .answer)) (state (r .store) (lent (now («arena_value» .exit)) (now («arena_unknown» .exit)))) ≡ addInput (state self (lent (now («arena_value» .entry)) (now («arena_unknown» .entry)))) h (lent (now (value .entry)) (now (unknown .entry))) ⌝ }
+        ensures { λ r. ⌜ outcome (cellAnswer (r .answer)) (stateBy (r .store) (av .exit) (au .exit))
+            ≡ addInput (stateBy self (av .entry) (au .entry)) h (lentBy (value .entry) (unknown .entry)) ⌝ }
     {
         let cells = self.cells;
-        match check_cells(cells, self.count, arena_value, arena_unknown) {
+        match check_cells(cells, self.count, av, au) {
             PlaceAnswer::Refused(r) => Stored {
                 answer: CellAnswer::Refused(r),
                 store: self,
@@ -77,21 +78,13 @@ impl Store {
                     store: self,
                 },
                 Verdict::Accepted => {
-                    if arena_value.len() - at < word_count(h.width) {
+                    if av.len() - at < word_count(h.width) {
                         Stored {
                             answer: CellAnswer::Refused(Refusal::NoRoom),
                             store: self,
                         }
                     } else {
-                        let s = inner::append(
-                            self,
-                            at,
-                            h,
-                            value,
-                            unknown,
-                            arena_value,
-                            arena_unknown,
-                        );
+                        let s = unchecked::append(self, at, h, value, unknown, av, au);
                         Stored {
                             answer: CellAnswer::Added(self.count),
                             store: s,
@@ -106,48 +99,24 @@ impl Store {
     pub fn add_step(
         self,
         step: Step,
-        arena_value: &mut [u64],
-        arena_unknown: &mut [u64],
-        scratch_value: &mut [u64],
-        scratch_unknown: &mut [u64],
+        av: &mut [u64],
+        au: &mut [u64],
+        sv: &mut [u64],
+        su: &mut [u64],
     ) -> Stored
-        ensures { λ r. ⌜ outcome (cellAnswer (r .answer)) (memory (state (r .store) (lent (now («arena_value» .exit)) (now («arena_unknown» .exit)))) (lent (now («scratch_value» .exit)) (now («scratch_unknown» .exit)))) ≡ addStep (memory (state self (lent (now («arena_value» .entry)) (now («arena_unknown» .entry)))) (lent (now («scratch_value» .entry)) (now («scratch_unknown» .entry)))) step ⌝ }
+        ensures { λ r. ⌜ outcome (cellAnswer (r .answer)) (memoryBy (r .store) (av .exit) (au .exit) (sv .exit) (su .exit))
+            ≡ addStep (memoryBy self (av .entry) (au .entry) (sv .entry) (su .entry)) step ⌝ }
     {
         let cells = self.cells;
-        match place_step(
-            cells,
-            self.count,
-            step,
-            arena_value,
-            arena_unknown,
-            scratch_value.len(),
-            scratch_unknown.len(),
-        ) {
+        match place_step(cells, self.count, step, av, au, sv.len(), su.len()) {
             StepAnswer::Refused(r) => Stored {
                 answer: CellAnswer::Refused(r),
                 store: self,
             },
             StepAnswer::At(at, o, h) => {
                 let op = step.op;
-                work_cells(
-                    op,
-                    o,
-                    h,
-                    step.c as usize,
-                    arena_value,
-                    arena_unknown,
-                    scratch_value,
-                    scratch_unknown,
-                );
-                let s = inner::append(
-                    self,
-                    at,
-                    h,
-                    scratch_value,
-                    scratch_unknown,
-                    arena_value,
-                    arena_unknown,
-                );
+                work_cells(op, o, h, step.c as usize, av, au, sv, su);
+                let s = unchecked::append(self, at, h, sv, su, av, au);
                 Stored {
                     answer: CellAnswer::Added(self.count),
                     store: s,

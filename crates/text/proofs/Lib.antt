@@ -4,3 +4,4 @@ pub mod Names
 pub mod Vectors
 pub mod Places
 pub mod Turns
+pub mod Characters

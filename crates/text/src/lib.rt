@@ -1,12 +1,12 @@
-// Readers of the lines of a text: a key, and behind it a number or the bits of a vector; or one of several lines. A reader is handed the text and
-// a place in it, and gives what stands there with the place behind it. Where that is not as it should be, the place given is past the end of every
-// text, and nothing is found there: readers are called one after the other, and the last place tells.
+// Readers of the lines of a text: a key, and behind it a number or the bits of a vector; or one of several lines. A reader is handed the
+// text and a place in it, and gives what stands there with the place behind it. Where that is not as it should be, the place given is past
+// the end of every text, and nothing is found there: readers are called one after the other, and the last place tells.
 ghost use mathlib.Core.Path.{_≡_};
 ghost use lib.ListN.{drop};
 ghost use Rattle.text.specs.Read.{key as keyOf, numberLine, bitsLine};
 ghost use Rattle.text.specs.Answers.{placeIn, lineIn};
 
-pub mod inner;
+pub mod unchecked;
 
 // The number that a line gives and the place where the next line begins.
 pub struct Line {
@@ -44,7 +44,8 @@ fn skip(s: &[u8], at: usize, key: &[u8]) -> usize
 
 // A line of `key` and a decimal number of at most `limit`, no leading zeros.
 pub fn number_line(s: &[u8], at: usize, key: &[u8], limit: u32) -> Line
-    ensures { λ r. ⌜ r ≡ lineIn (now (s .entry)) (numberLine (now (key .entry)) limit (drop at (now (s .entry)))) ⌝ }
+    ensures { λ r. ⌜ r
+        ≡ lineIn (now (s .entry)) (numberLine (now (key .entry)) limit (drop at (now (s .entry)))) ⌝ }
 {
     let from = skip(s, at, key);
     let mut i = from;

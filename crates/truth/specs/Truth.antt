@@ -10,9 +10,9 @@ use Rattle.words.specs.Planes.{Planes, vectorOf}
 use Rattle.value.specs.declared.Operand.{Operand}
 use Rattle.value.specs.declared.Operand.the-variants.{Vector, Real}
 use Rattle.value.specs.Checks.{checkOperand}
-use Rattle.fold.specs.declared.Truth.{Truth}
-use Rattle.fold.specs.declared.Truth.the-variants.{False, True}
-use Rattle.fold.specs.Fold.{truthOf}
+use Rattle.reduce_words.specs.declared.Truth.{Truth}
+use Rattle.reduce_words.specs.declared.Truth.the-variants.{False, True}
+use Rattle.reduce_words.specs.Fold.{truthOf}
 use Rattle.truth.specs.declared.TruthAnswer.{TruthAnswer}
 use Rattle.truth.specs.declared.TruthAnswer.the-variants as truth-answer
 

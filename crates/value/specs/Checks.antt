@@ -1,20 +1,17 @@
--- A vector with its header, the checks of an operand and of output planes, in document 01's numbers and order ("Numbers for what is not
--- done"), and how a result is written.
+-- A vector with its header, the checks of planes, of an operand and of output planes, in document 01's numbers and order ("Numbers for what is
+-- not done"), and how a result is written.
 use mathlib.Core.Bool.{false, _&&_, cond}
 use mathlib.Core.List.{List}
 use Prim.Native.Nat.{ℕ}
-use lib.Dec.{eqb}
-use Rattle.refusal.specs.Refusals.{refusalNumber}
+use lib.Dec.{eqb, ltb}
+use lib.ListN.{length}
 use Rattle.refusal.specs.Outcome.{Answer, Outcome, outcome, after, orRefuse}
 use Rattle.refusal.specs.Outcome.Answer.{given, refused}
 use Rattle.bit.specs.declared.LogicBit.{LogicBit}
-use Rattle.words.specs.Planes.{wordCount, vectorOf, planesOf, Planes}
-use Rattle.planecheck.specs.PlaneCheck.{exactly, checkPlanes}
+use Rattle.words.specs.Planes.{wordCount, vectorOf, planesOf, clearAbove, Planes}
 use Rattle.value.specs.declared.Header.{Header}
 use Rattle.value.specs.declared.Operand.{Operand}
 use Rattle.value.specs.declared.Operand.the-variants as operand
-use Rattle.value.specs.declared.VectorAnswer.{VectorAnswer}
-use Rattle.value.specs.declared.VectorAnswer.the-variants as vector-answer
 
 -- unsigned, and no fill
 abbrev pub plain : ℕ → Header
@@ -28,10 +25,22 @@ pub record Vector : Type 0 where
 abbrev pub vector : Header → Planes → Vector
 vector h p = record { header = h; bits = vectorOf (h .width) p }
 
--- the answer in the paper's numbers
-abbrev pub vectorAnswer : VectorAnswer → Answer Header
-vectorAnswer (vector-answer.Vector h) = given h
-vectorAnswer (vector-answer.Refused r) = refused (refusalNumber r)
+-- the widest vector ("Header and operand")
+abbrev pub maxWidth : ℕ
+maxWidth = 1048576
+
+-- both planes have exactly n words, or the refusal
+abbrev pub exactly : ℕ → Planes → ℕ → Answer Unit
+exactly n p refusal = cond (eqb (length (p .value)) n && eqb (length (p .unknown)) n) (given tt) (refused refusal)
+
+-- 1 the width is above 1,048,576; 2 a plane is not exactly its word count
+unfoldable pub checkLengths : ℕ → Planes → Answer Unit
+checkLengths w p = cond (ltb maxWidth w) (refused 1) (exactly (wordCount w) p 2)
+
+-- 1, 2, then 3 a bit is set at or above the width
+unfoldable pub checkPlanes : ℕ → Planes → Answer Unit
+checkPlanes w p =
+    after (checkLengths w p) (cond (clearAbove w (p .value) && clearAbove w (p .unknown)) (given tt) (refused 3))
 
 -- 1, 2, 3, then 4 a fill of width 0
 unfoldable pub checkVector : Header → Planes → Answer Unit

@@ -1,15 +1,15 @@
 // The calls of operators whose result is a vector, by their numbers in `replay`.
+use abi::HeaderResult;
 use agreement::is_vector;
-use coded::HeaderResult;
 use ffi::vectors::vowherunga_bitwise_and;
 use ffi::vectors::vowherunga_bitwise_not;
 use ffi::vectors::vowherunga_bitwise_or;
 use ffi::vectors::vowherunga_bitwise_xor;
 use ffi::vectors::vowherunga_merge_unknown;
-use replay::inner::are_left;
-use replay::inner::call_of;
-use replay::inner::field;
-use replay::inner::plain;
+use replay::unchecked::are_left;
+use replay::unchecked::call_of;
+use replay::unchecked::field;
+use replay::unchecked::plain;
 use value::Header;
 
 // A vector of two operands, or of the first.

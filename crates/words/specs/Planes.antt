@@ -3,6 +3,7 @@ use mathlib.Core.Path.{_≡_}
 use mathlib.Core.Bool.{Bool, true, _&&_}
 use mathlib.Core.List.{List, [], _∷_}
 use Prim.Native.Nat.{ℕ, zero, suc, _+_, _-_, _*_, _/_, _%_, _≤_}
+use denote.Ref.{RefT, now}
 use lib.Dec.{eqb}
 use lib.ListN.{length, getD, drop}
 use Rattle.bit.specs.declared.LogicBit.{LogicBit}
@@ -105,6 +106,10 @@ pub record Planes : Type 0 where
 
 abbrev pub lent : List ℕ → List ℕ → Planes
 lent v u = record { value = v; unknown = u }
+
+-- by the references
+abbrev pub lentBy : (value unknown : RefT (List ℕ)) → Planes
+lentBy v u = lent (now v) (now u)
 
 abbrev pub vectorOf : ℕ → Planes → List LogicBit
 vectorOf w p = fromPlanes w (p .value) (p .unknown)

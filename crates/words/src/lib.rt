@@ -2,7 +2,7 @@
 ghost use mathlib.Core.Path.{_≡_};
 ghost use Rattle.words.specs.Planes.{wordCount};
 
-pub mod inner;
+pub mod unchecked;
 
 // A word of the value plane and the word of the unknown plane beside it.
 #[repr(C)]

@@ -1,2 +1,2 @@
 // The ops of a step list worked out on accepted operands.
-pub mod inner;
+pub mod unchecked;

@@ -3,10 +3,10 @@ use mathlib.Core.Path.{sym, ap, _∙_}
 use Rattle.refusal.specs.Outcome.{outcome, verdict}
 use Rattle.refusal.specs.Outcome.Answer.{given}
 use Rattle.words.specs.Planes.{Planes, lent}
-use Rattle.planecheck.proofs.Checks.{exactly-accepted}
+use Rattle.value.proofs.Checks.{exactly-accepted}
 use Rattle.value.specs.Checks.{checkOutput}
 use Rattle.value.proofs.Checks.{vector-accepted}
-use Rattle.bitwise.specs.Bitwise.{notHeader}
+use Rattle.bitwise_words.specs.Joined.{notHeader}
 use borrow.Author.Needs.{needs}
 use Rattle.bitwise.proofs.bitwise_not.Statement.{statement}
 use Rattle.bitwise.proofs.bitwise_not.Tie as tie

@@ -6,7 +6,7 @@ use mathlib.Core.Path.{sym, ap, ap₂, _∙_}
 use native.Mathlib.Omega.{arith}
 use Rattle.refusal.specs.Outcome.{outcome, verdict}
 use Rattle.refusal.specs.Outcome.Answer.{given}
-use Rattle.planecheck.proofs.Checks.{exactly-accepted}
+use Rattle.value.proofs.Checks.{exactly-accepted}
 use Rattle.value.specs.Checks.{checkOutput}
 use borrow.Author.Needs.{needs}
 use Rattle.constructors.proofs.construct.Statement.{statement}

@@ -3,7 +3,7 @@ use borrow.Author.Needs.{needs}
 use mathlib.Core.Path.{ap, _∙_}
 use Rattle.words.specs.Planes.{lent}
 use Rattle.compare.proofs.Reals.{vectors}
-use Rattle.coded.specs.Coded.{codedBit}
+use Rattle.abi.specs.Coded.{codedBit}
 use Rattle.ffi_answers.proofs.vowherunga_equal_vectors.Statement.{statement}
 use Rattle.ffi_answers.proofs.vowherunga_equal_vectors.Tie as tie
 

@@ -1,7 +1,7 @@
 -- The answer is coded by `bit_result`, and the entry ensures the rest.
 use borrow.Author.Needs.{needs}
 use mathlib.Core.Path.{ap, _∙_}
-use Rattle.coded.specs.Coded.{codedBit}
+use Rattle.abi.specs.Coded.{codedBit}
 use Rattle.ffi_answers.proofs.vowherunga_wildcard_eq.Statement.{statement}
 use Rattle.ffi_answers.proofs.vowherunga_wildcard_eq.Tie as tie
 

@@ -1,9 +1,9 @@
 -- By the test of the ending.
 use mathlib.Core.Path.{sym, ap, _∙_}
 use mathlib.Core.Bool.{Bool, cond}
-use Rattle.fields.specs.declared.Fields.{Fields}
-use Rattle.fields.specs.Fields.{fieldsOf}
-use Rattle.ffi_run.specs.Crossing.{fieldsBy}
+use Rattle.store_abi.specs.declared.Fields.{Fields}
+use Rattle.store_abi.specs.Fields.{fieldsOf}
+use Rattle.store_abi.specs.Fields.{fieldsBy}
 use borrow.Author.Needs.{needs}
 use Rattle.ffi_run.proofs.save_run.Statement.{statement}
 use Rattle.ffi_run.proofs.save_run.Tie as tie

@@ -3,7 +3,7 @@ use borrow.Author.Needs.{needs}
 use Rattle.words.specs.Planes.{lent}
 use Rattle.lines.specs.Buffer.{buffer}
 use Rattle.steps.specs.Run.{endingOf, runText, finalOf}
-use Rattle.fields.specs.Fields.{fields}
+use Rattle.store_abi.specs.Fields.{fields}
 use Rattle.ffi_run.proofs.Crossing.{run-crosses}
 use Rattle.ffi_run.proofs.vowherunga_run.Statement.{statement}
 use Rattle.ffi_run.proofs.vowherunga_run.Tie as tie

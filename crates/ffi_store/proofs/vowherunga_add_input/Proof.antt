@@ -2,7 +2,7 @@
 use borrow.Author.Needs.{needs}
 use Rattle.words.specs.Planes.{lent}
 use Rattle.store.specs.Store.{state, cellAnswer}
-use Rattle.fields.specs.Fields.{fields, settled}
+use Rattle.store_abi.specs.Fields.{fields, settled}
 use Rattle.ffi_store.proofs.Crossing.{input-crosses}
 use Rattle.ffi_store.proofs.vowherunga_add_input.Statement.{statement}
 use Rattle.ffi_store.proofs.vowherunga_add_input.Tie as tie

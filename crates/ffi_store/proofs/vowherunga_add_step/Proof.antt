@@ -3,7 +3,7 @@ use borrow.Author.Needs.{needs}
 use Rattle.words.specs.Planes.{lent}
 use Rattle.store.specs.Store.{state, cellAnswer}
 use Rattle.store.specs.Step.{memory}
-use Rattle.fields.specs.Fields.{fields, settled}
+use Rattle.store_abi.specs.Fields.{fields, settled}
 use Rattle.ffi_store.proofs.Crossing.{step-crosses}
 use Rattle.ffi_store.proofs.vowherunga_add_step.Statement.{statement}
 use Rattle.ffi_store.proofs.vowherunga_add_step.Tie as tie

@@ -1,8 +1,8 @@
 -- `narrow::reduce_or`: truth as a bit.
 use mathlib.Core.Path.{ap, _∙_}
 use Rattle.words.specs.Planes.{vectorOf}
-use Rattle.fold.specs.Fold.{truthBit}
-use Rattle.fold.proofs.Folds.{truth-or}
+use Rattle.reduce_words.specs.Fold.{truthBit}
+use Rattle.reduce_words.proofs.Folds.{truth-or}
 use Rattle.narrow.specs.Narrow.{single}
 use borrow.Author.Needs.{needs}
 use Rattle.narrow.proofs.reduce_or.Statement.{statement}

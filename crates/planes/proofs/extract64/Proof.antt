@@ -1,7 +1,7 @@
 -- `planes::extract64`: refused as checked, else by the inner function.
 use mathlib.Core.Path.{sym, ap, _∙_}
 use Rattle.refusal.specs.Outcome.{verdict}
-use Rattle.planecheck.proofs.Checks.{planes-accepted}
+use Rattle.value.proofs.Checks.{planes-accepted}
 use borrow.Author.Needs.{needs}
 use Rattle.planes.proofs.extract64.Statement.{statement}
 use Rattle.planes.proofs.extract64.Tie as tie

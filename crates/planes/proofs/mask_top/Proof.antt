@@ -5,7 +5,7 @@ use mathlib.Core.Path.{sym, ap, ap₂, _∙_}
 use mathlib.Core.List.{List}
 use Prim.Native.Nat.{ℕ}
 use Rattle.refusal.specs.Outcome.{outcome, verdict}
-use Rattle.planecheck.proofs.Checks.{lengths-accepted}
+use Rattle.value.proofs.Checks.{lengths-accepted}
 use borrow.Author.Needs.{needs}
 use Rattle.planes.proofs.mask_top.Statement.{statement}
 use Rattle.planes.proofs.mask_top.Tie as tie

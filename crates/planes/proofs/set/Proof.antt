@@ -5,7 +5,7 @@ use Rattle.bits.specs.Bits.{spliced}
 use Rattle.bits.proofs.Splice.{set-spliced}
 use mathlib.Core.Path.{sym, ap, _∙_}
 use Rattle.refusal.specs.Outcome.{outcome, verdict}
-use Rattle.planecheck.proofs.Checks.{planes-accepted}
+use Rattle.value.proofs.Checks.{planes-accepted}
 use borrow.Author.Needs.{needs}
 use Rattle.planes.proofs.set.Statement.{statement}
 use Rattle.planes.proofs.set.Tie as tie

@@ -3,7 +3,7 @@ use Rattle.refusal.specs.Outcome.Answer.{given}
 use Rattle.words.specs.Planes.{Planes}
 use mathlib.Core.Path.{sym, ap, _∙_}
 use Rattle.refusal.specs.Outcome.{outcome, verdict}
-use Rattle.planecheck.proofs.Checks.{planes-accepted}
+use Rattle.value.proofs.Checks.{planes-accepted}
 use borrow.Author.Needs.{needs}
 use Rattle.planes.proofs.splice64.Statement.{statement}
 use Rattle.planes.proofs.splice64.Tie as tie

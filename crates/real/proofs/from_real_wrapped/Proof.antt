@@ -6,8 +6,8 @@ use lib.Ieee.{Float}
 use Rattle.refusal.specs.Outcome.{Answer, outcome, orRefuse, verdict}
 use Rattle.refusal.specs.Outcome.Answer.{given}
 use Rattle.words.specs.Planes.{Planes, lent, planesOf}
-use Rattle.planecheck.specs.PlaneCheck.{maxWidth}
-use Rattle.planecheck.proofs.Checks.{exactly-accepted}
+use Rattle.value.specs.Checks.{maxWidth}
+use Rattle.value.proofs.Checks.{exactly-accepted}
 use Rattle.value.specs.declared.Header.{Header}
 use Rattle.value.specs.Checks.{plain, checkOutput}
 use Rattle.real.specs.Round.{realVector, fromReal}

@@ -7,8 +7,8 @@ use lib.ListN.{length, drop}
 use Rattle.text.specs.Answers.{nowhere, lineIn}
 use Rattle.text.proofs.Names.{keyed-names}
 use Rattle.text.proofs.Places.{line-near}
-use Rattle.opline.specs.OpLine.{nameLine}
-use Rattle.opline.proofs.Names.{name-exact}
+use Rattle.steplist.specs.OpLine.{nameLine}
+use Rattle.steplist.proofs.Names.{name-exact}
 use Rattle.steplist.specs.Listing.{kindKey}
 use Rattle.steplist.proofs.Parts.{kinds, input-got}
 use borrow.Author.Needs.{needs}

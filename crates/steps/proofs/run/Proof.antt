@@ -10,7 +10,7 @@ use Rattle.refusal.specs.Outcome.{Answer, Outcome, outcome, after, verdict}
 use Rattle.refusal.specs.Outcome.Answer.{given}
 use Rattle.words.specs.Planes.{Planes, lent}
 use Rattle.lines.specs.Buffer.{Buffer, buffer, put}
-use Rattle.output.specs.Output.{refusedText}
+use Rattle.run_lines.specs.Output.{refusedText}
 use Rattle.machine.specs.Machine.{RefusedAt}
 use Rattle.store.specs.Store.{State, state}
 use Rattle.store.specs.Step.{memory}
@@ -18,7 +18,7 @@ use Rattle.steplist.specs.Listing.{StepList, whole}
 use Rattle.steplist.specs.Answers.{listIn}
 use Rattle.steplist.proofs.Listed.{listed-counts, listed-places}
 use Rattle.inputs.specs.Limits.{Readable}
-use Rattle.turn.proofs.Results.{number-small}
+use Rattle.run_lines.proofs.Room.{number-small}
 use Rattle.steps.specs.Run.{afterInputs, runWhole, emptied, Final, final, finalOf}
 use borrow.Author.Needs.{needs}
 use Rattle.steps.proofs.run.Statement.{statement}
@@ -33,10 +33,10 @@ module _ (k : tie.After-read-list) where
   text = start .args .text .now
 
   abbrev arenas : Planes
-  arenas = lent (start .args .arena-value .now) (start .args .arena-unknown .now)
+  arenas = lent (start .args .av .now) (start .args .au .now)
 
   abbrev scratch : Planes
-  scratch = lent (start .args .scratch-value .now) (start .args .scratch-unknown .now)
+  scratch = lent (start .args .sv .now) (start .args .su .now)
 
   abbrev out : Buffer
   out = buffer (start .args .out .now) 0

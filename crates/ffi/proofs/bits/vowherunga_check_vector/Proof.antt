@@ -1,7 +1,7 @@
 -- The answer is coded by `done`, and the entry ensures the rest.
 use borrow.Author.Needs.{needs}
 use mathlib.Core.Path.{ap, _∙_}
-use Rattle.coded.specs.Coded.{codedDone}
+use Rattle.abi.specs.Coded.{codedDone}
 use Rattle.ffi.proofs.bits.vowherunga_check_vector.Statement.{statement}
 use Rattle.ffi.proofs.bits.vowherunga_check_vector.Tie as tie
 

@@ -1,7 +1,7 @@
 -- The answer is coded by `word_result`, and the entry ensures the rest.
 use borrow.Author.Needs.{needs}
 use mathlib.Core.Path.{ap, _∙_}
-use Rattle.coded.specs.Coded.{codedWord}
+use Rattle.abi.specs.Coded.{codedWord}
 use Rattle.ffi.proofs.bits.vowherunga_extract64.Statement.{statement}
 use Rattle.ffi.proofs.bits.vowherunga_extract64.Tie as tie
 

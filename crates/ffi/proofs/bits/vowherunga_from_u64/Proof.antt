@@ -1,7 +1,7 @@
 -- The answer is coded by `header_result`, and the entry ensures the rest.
 use borrow.Author.Needs.{needs}
-use Rattle.coded.specs.Coded.{codedHeader}
-use Rattle.coded.proofs.Coding.{coding}
+use Rattle.abi.specs.Coded.{codedHeader}
+use Rattle.abi.proofs.Coding.{coding}
 use Rattle.ffi.proofs.bits.vowherunga_from_u64.Statement.{statement}
 use Rattle.ffi.proofs.bits.vowherunga_from_u64.Tie as tie
 

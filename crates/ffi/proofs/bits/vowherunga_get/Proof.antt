@@ -1,7 +1,7 @@
 -- The answer is coded by `bit_result`, and the entry ensures the rest.
 use borrow.Author.Needs.{needs}
 use mathlib.Core.Path.{ap, _∙_}
-use Rattle.coded.specs.Coded.{codedBit}
+use Rattle.abi.specs.Coded.{codedBit}
 use Rattle.ffi.proofs.bits.vowherunga_get.Statement.{statement}
 use Rattle.ffi.proofs.bits.vowherunga_get.Tie as tie
 

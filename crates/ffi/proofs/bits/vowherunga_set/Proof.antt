@@ -1,7 +1,7 @@
 -- The answer is coded by `done`, and the entry ensures the rest.
 use borrow.Author.Needs.{needs}
-use Rattle.coded.specs.Coded.{codedDone}
-use Rattle.coded.proofs.Coding.{coding}
+use Rattle.abi.specs.Coded.{codedDone}
+use Rattle.abi.proofs.Coding.{coding}
 use Rattle.ffi.proofs.bits.vowherunga_set.Statement.{statement}
 use Rattle.ffi.proofs.bits.vowherunga_set.Tie as tie
 

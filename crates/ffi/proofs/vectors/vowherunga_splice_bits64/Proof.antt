@@ -1,7 +1,7 @@
 -- The answer is coded by `change_result`, and the entry ensures the rest.
 use borrow.Author.Needs.{needs}
-use Rattle.coded.specs.Coded.{codedChange}
-use Rattle.coded.proofs.Coding.{coding}
+use Rattle.abi.specs.Coded.{codedChange}
+use Rattle.abi.proofs.Coding.{coding}
 use Rattle.ffi.proofs.vectors.vowherunga_splice_bits64.Statement.{statement}
 use Rattle.ffi.proofs.vectors.vowherunga_splice_bits64.Tie as tie
 

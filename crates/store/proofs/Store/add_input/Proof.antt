@@ -25,7 +25,7 @@ abbrev st : tie.After-check-cells → tie.Start
 st k = k .before .before .before .before .before .before .before .before
 
 abbrev all : tie.After-check-cells → State
-all k = state (st k .args .self) (lent (st k .args .arena-value .now) (st k .args .arena-unknown .now))
+all k = state (st k .args .self) (lent (st k .args .av .now) (st k .args .au .now))
 
 abbrev input : tie.After-check-cells → Planes
 input k = lent (st k .args .value .now) (st k .args .unknown .now)
@@ -77,7 +77,7 @@ module _ (e : tie.Else1) where
       let w = e .before in
       let g = st from .args in
       let t = told w in
-      let h : wordCount (g .h .width) ≤ length (g .arena-value .now) - nextWord (g .self) = omega (arith, found t .2, w .word-count .ensures, e .if1 .left) in
+      let h : wordCount (g .h .width) ≤ length (g .av .now) - nextWord (g .self) = omega (arith, found t .2, w .word-count .ensures, e .if1 .left) in
       simp (found t .0, lt-leb _ _ (few t), ordered w, le-ltb _ _ h)
 
   accepted : Accepted (all from) (st from .args .h) (input from)
@@ -163,7 +163,7 @@ returns-3 c =
     let w = c .before in
     let t = told w in
     let g = st (k t) .args in
-    let h : length (g .arena-value .now) - nextWord (g .self) < wordCount (g .h .width) = omega (arith, found t .2, w .word-count .ensures, c .if1 .taken) in
+    let h : length (g .av .now) - nextWord (g .self) < wordCount (g .h .width) = omega (arith, found t .2, w .word-count .ensures, c .if1 .taken) in
     simp (found t .0, lt-leb _ _ (few t), ordered w, lt-ltb _ _ h)
 
 same-length-7 : tie.Need-same-length-7

@@ -31,7 +31,7 @@ st k = k .before .before .before .before .before .before .before .before
 abbrev all : tie.Start → Memory
 all s =
     let g = s .args in
-    memory (state (g .self) (lent (g .arena-value .now) (g .arena-unknown .now))) (lent (g .scratch-value .now) (g .scratch-unknown .now))
+    memory (state (g .self) (lent (g .av .now) (g .au .now))) (lent (g .sv .now) (g .su .now))
 
 places : (s : tie.Start) → length (s .args .self .cells) ≡ 320
 places s = simp length-map at (s .good .0 .1 .1 .0 .1 .0 .1)

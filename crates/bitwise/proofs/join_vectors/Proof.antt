@@ -1,0 +1,124 @@
+-- `bitwise::join_vectors`: refused as checked, else joined.
+use mathlib.Core.Path.{sym, ap, ap₂, _∙_}
+use Rattle.refusal.specs.Outcome.{outcome, verdict}
+use Rattle.refusal.specs.Outcome.Answer.{given}
+use Rattle.words.specs.Planes.{Planes, lent}
+use Rattle.value.proofs.Checks.{exactly-accepted}
+use Rattle.value.specs.declared.Header.{Header}
+use Rattle.value.specs.Checks.{checkOutput}
+use Rattle.value.proofs.Checks.{vector-accepted}
+use borrow.Author.Needs.{needs}
+use Rattle.bitwise.proofs.join_vectors.Statement.{statement}
+use Rattle.bitwise.proofs.join_vectors.Tie as tie
+
+check-vector-requires : tie.Need-check-vector-requires
+check-vector-requires c κs = search needs
+
+enum-known-r : tie.Need-enum-known-r
+enum-known-r c = search needs
+
+enum-told : tie.Need-enum-told
+enum-told c = search needs
+
+check-vector-requires-2 : tie.Need-check-vector-requires-2
+check-vector-requires-2 c κs = search needs
+
+enum-known-r-2 : tie.Need-enum-known-r-2
+enum-known-r-2 c = search needs
+
+enum-told-2 : tie.Need-enum-told-2
+enum-told-2 c = search needs
+
+result-header-requires : tie.Need-result-header-requires
+result-header-requires c κs = search needs
+
+check-output-requires : tie.Need-check-output-requires
+check-output-requires c κs = search needs
+
+enum-known-r-3 : tie.Need-enum-known-r-3
+enum-known-r-3 c = search needs
+
+enum-told-3 : tie.Need-enum-told-3
+enum-told-3 c = search needs
+
+join-planes-requires : tie.Need-join-planes-requires
+unfolding checkOutput
+join-planes-requires c κs =
+    let t3 = c .before .before in
+    let h = t3 .before .before .before .before .before in
+    let t2 = h .before in
+    let t1 = t2 .before .before .before in
+    let a = t1 .before .before .before .before .before .before .before .before .before .args in
+    let p = vector-accepted (a .a) (lent (a .av .now) (a .au .now)) (sym (t1 .before .before .check-vector .ensures) ∙ ap verdict (t1 .enum-told .given .1)) .planes in
+    let q = vector-accepted (a .b) (lent (a .bv .now) (a .bu .now)) (sym (t2 .before .before .check-vector2 .ensures) ∙ ap verdict (t2 .enum-told2 .given .1)) .planes in
+    let l = exactly-accepted _ (lent (a .ov .now) (a .ou .now)) 5 (sym (t3 .before .before .check-output .ensures) ∙ ap verdict (t3 .enum-told3 .given .1)) in (
+      (p .value-plane, p .unknown-plane),
+      ((q .value-plane, q .unknown-plane), (ap (λ (x : Header). x .width) (h .result-header .ensures), l)),
+    )
+
+returns : tie.Need-returns
+returns c =
+    let t = c .before in
+    simp (sym (t .before .before .check-vector .ensures) ∙ ap verdict (t .r .given .1))
+
+returns-2 : tie.Need-returns-2
+returns-2 c =
+    let t = c .before in
+    let t1 = t .before .before .before in
+    simp (sym (t1 .before .before .check-vector .ensures) ∙ ap verdict (t1 .enum-told .given .1), sym (t .before .before .check-vector2 .ensures) ∙ ap verdict (t .r2 .given .1))
+
+same-length : tie.Need-same-length
+same-length c = search needs
+
+same-length-2 : tie.Need-same-length-2
+same-length-2 c = search needs
+
+returns-3 : tie.Need-returns-3
+returns-3 c =
+    let t3 = c .before in
+    let h = t3 .before .before .before .before .before in
+    let t2 = h .before in
+    let t1 = t2 .before .before .before in
+    let a = t1 .before .before .before .before .before .before .before .before .before .args in
+    simp (sym (t1 .before .before .check-vector .ensures) ∙ ap verdict (t1 .enum-told .given .1), sym (t2 .before .before .check-vector2 .ensures) ∙ ap verdict (t2 .enum-told2 .given .1), sym (ap (λ (x : Header). checkOutput (x .width) (lent (a .ov .now) (a .ou .now))) (h .result-header .ensures)) ∙ sym (t3 .before .before .check-output .ensures) ∙ ap verdict (t3 .r3 .given .1))
+
+same-length-3 : tie.Need-same-length-3
+same-length-3 c = search needs
+
+same-length-4 : tie.Need-same-length-4
+same-length-4 c = search needs
+
+returns-4 : tie.Need-returns-4
+returns-4 c =
+    let j = c .before .before .before .before in
+    let t3 = j .before .before .before in
+    let h = t3 .before .before .before .before .before in
+    let t2 = h .before in
+    let t1 = t2 .before .before .before in
+    let a = t1 .before .before .before .before .before .before .before .before .before .args in
+    simp (sym (t1 .before .before .check-vector .ensures) ∙ ap verdict (t1 .enum-told .given .1), sym (t2 .before .before .check-vector2 .ensures) ∙ ap verdict (t2 .enum-told2 .given .1), sym (ap (λ (x : Header). checkOutput (x .width) (lent (a .ov .now) (a .ou .now))) (h .result-header .ensures)) ∙ sym (t3 .before .before .check-output .ensures) ∙ ap verdict (t3 .enum-told3 .given .1))
+    (ap₂ (λ (x : Header) (p : Planes). outcome (given x) p) (h .result-header .ensures) (j .join-planes .ensures))
+
+pub join-vectors-spec : {M : Type 1} → statement M
+join-vectors-spec =
+    tie.close
+    (tie.spec
+    check-vector-requires
+    enum-known-r
+    enum-told
+    check-vector-requires-2
+    enum-known-r-2
+    enum-told-2
+    result-header-requires
+    check-output-requires
+    enum-known-r-3
+    enum-told-3
+    join-planes-requires
+    returns
+    returns-2
+    same-length
+    same-length-2
+    returns-3
+    same-length-3
+    same-length-4
+    returns-4)

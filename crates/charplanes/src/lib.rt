@@ -1,2 +1,0 @@
-// The planes of a vector from its characters in a text.
-pub mod inner;

@@ -1,0 +1,152 @@
+-- Two operands place by place.
+--     zero-apart, zero-unsure     two zeros neither mismatch nor leave the answer open
+--     one-apart, one-unsure       nor do two ones
+--     answer-found                what a scan finds gives the answer
+--     found-at, found-none        what is found where a place mismatches and none below it does; where the scan ends without a mismatch
+--     equal-and                   equality is the and-reduction of the places, each by whether its bits are the same
+use mathlib.Core.Path.{_≡_, refl, sym, ap, ap₂, _∙_}
+use mathlib.Core.Bool.{Bool, true, false, not, _||_, cond}
+use mathlib.Core.List.{List, [], _∷_}
+use Prim.Native.Nat.{ℕ, zero, suc, _*_, _≤_}
+use native.Mathlib.Omega.{arith}
+use lib.Dec.{eqb}
+use lib.ListN.{length, getD}
+use Rattle.bit.specs.declared.LogicBit.{LogicBit}
+use Rattle.bit.specs.declared.LogicBit.the-variants.{Zero, One, X, Z}
+use Rattle.bit.specs.Rules.{same, notBit, xorBit}
+use Rattle.words.specs.Vector.{tabulate}
+use Rattle.value.specs.Checks.{Vector}
+use Rattle.reduce_words.specs.Fold.{anyOf, isUnknown, reduceAnd}
+use Rattle.reduce_words.proofs.Scanned.{gather, some, Scanned}
+use Rattle.reduce_words.proofs.Gather.{gather-cong}
+use Rattle.reduce_words.proofs.Places.{any-tabulate}
+use Rattle.reduce_words.proofs.Scan.{none-left, open-told}
+use Rattle.extension.specs.Extension.{largerWidth, operandAt}
+use Rattle.compare_words.specs.declared.Comparison.{Comparison}
+use Rattle.compare_words.specs.declared.Comparison.the-variants.{Equal, CaseEqual, CasezEqual, CasexEqual, WildcardEqual}
+use Rattle.compare_words.specs.declared.Found.the-variants.{Mismatch, Unsure, Same}
+use Rattle.compare_words.specs.Compared.{operator, mismatch, unsure, onPair, decided, compared, lowest, found, foundBit}
+
+-- what stands at each place beyond the width
+abbrev pub zeros : LogicBit × LogicBit
+zeros = (Zero, Zero)
+
+pub zero-apart : (op : Comparison) → mismatch op Zero Zero ≡ false
+zero-apart Equal = refl
+zero-apart CaseEqual = refl
+zero-apart CasezEqual = refl
+zero-apart CasexEqual = refl
+zero-apart WildcardEqual = refl
+
+pub zero-unsure : (op : Comparison) → unsure op Zero Zero ≡ false
+zero-unsure Equal = refl
+zero-unsure CaseEqual = refl
+zero-unsure CasezEqual = refl
+zero-unsure CasexEqual = refl
+zero-unsure WildcardEqual = refl
+
+pub one-apart : (op : Comparison) → mismatch op One One ≡ false
+one-apart Equal = refl
+one-apart CaseEqual = refl
+one-apart CasezEqual = refl
+one-apart CasexEqual = refl
+one-apart WildcardEqual = refl
+
+pub one-unsure : (op : Comparison) → unsure op One One ≡ false
+one-unsure Equal = refl
+one-unsure CaseEqual = refl
+one-unsure CasezEqual = refl
+one-unsure CasexEqual = refl
+one-unsure WildcardEqual = refl
+
+-- ---- what a scan finds
+
+pub answer-found : (op : Comparison) (ps : List (LogicBit × LogicBit)) → foundBit (found op ps) ≡ decided op ps
+answer-found op ps = go (anyOf (onPair (mismatch op)) ps) (anyOf (onPair (unsure op)) ps)
+  where
+    go : (m d : Bool) → foundBit (cond m (Mismatch (lowest (onPair (mismatch op)) ps)) (cond d Unsure Same)) ≡ cond m Zero (cond d X One)
+    go true d = refl
+    go false true = refl
+    go false false = refl
+
+neither : (a b : Bool) → (a || b) ≡ false → (a ≡ false) × (b ≡ false)
+neither true b h = let z : _≡_ {A = ℕ} 0 1 = cc in absurd (omega arith)
+neither false b h = (refl, h)
+
+module _ {A : Type 0} (p : A → Bool) (e : A) (fails : p e ≡ false) where
+  -- a member that passes, with none before it, is the lowest
+  lowest-at : (bs : List A) (i : ℕ) → some i (λ i. p (getD bs i e)) ≡ false → p (getD bs i e) ≡ true → (anyOf p bs ≡ true) × (lowest p bs ≡ i)
+  unfolding gather
+  lowest-at [] i h t = let z : _≡_ {A = ℕ} 0 1 = cc in absurd (omega arith)
+  lowest-at (b ∷ bs) zero h t = (ap (λ (z : Bool). z || anyOf p bs) t, ap (λ (z : Bool). cond z 0 (suc (lowest p bs))) t)
+  lowest-at (b ∷ bs) (suc i) h t =
+      let q = neither (p b) (some i (λ i. p (getD bs i e))) h in
+      let r = lowest-at bs i (q .1) t in
+      (ap₂ _||_ (q .0) (r .0), ap₂ (λ (z : Bool) (n : ℕ). cond z 0 (suc n)) (q .0) (r .1))
+
+turned : {A : Type 0} (x y : A) (z : Bool) → cond (not z) x y ≡ cond z y x
+turned x y true = refl
+turned x y false = refl
+
+-- 0 on a mismatch, else x where a place is unsure, else 1
+abbrev pub answered : Bool → ℕ → LogicBit
+answered m d = cond m Zero (cond (eqb d 0) One X)
+
+module _ (op : Comparison) (ps : List (LogicBit × LogicBit)) where
+  abbrev pub Compared : ℕ → ℕ → Type 0
+  Compared = Scanned (onPair (mismatch op)) (onPair (unsure op)) zeros zeros ps
+
+  pub by-tests : (m : Bool) (d : ℕ) → anyOf (onPair (mismatch op)) ps ≡ m → anyOf (onPair (unsure op)) ps ≡ not (eqb d 0)
+      → answered m d ≡ decided op ps
+  by-tests m d hm hd = sym (ap₂ (λ (x y : Bool). cond x Zero (cond y X One)) hm hd ∙ ap (λ (x : LogicBit). cond m Zero x) (turned X One (eqb d 0)))
+
+  pub found-at : (i : ℕ) → some i (λ i. onPair (mismatch op) (getD ps i zeros)) ≡ false → onPair (mismatch op) (getD ps i zeros) ≡ true
+      → Mismatch i ≡ found op ps
+  found-at i h t =
+      let r = lowest-at (onPair (mismatch op)) zeros (zero-apart op) ps i h t in
+      sym (ap₂ (λ (m : Bool) (n : ℕ). cond m (Mismatch n) (cond (anyOf (onPair (unsure op)) ps) Unsure Same)) (r .0) (r .1))
+
+  pub found-none : (d k : ℕ) → Compared d k → length ps ≤ k * 64 → cond (eqb d 0) Same Unsure ≡ found op ps
+  found-none d k s l =
+      sym (ap₂ (λ (m z : Bool). cond m (Mismatch (lowest (onPair (mismatch op)) ps)) (cond z Unsure Same))
+      (none-left (onPair (mismatch op)) (onPair (unsure op)) zeros zeros ps (zero-apart op) d k s l)
+      (open-told (onPair (mismatch op)) (onPair (unsure op)) zeros zeros ps (zero-apart op) d k s (zero-unsure op) l)
+      ∙ turned Unsure Same (eqb d 0))
+
+-- ---- equality as a reduction
+
+same-or-x : (a b : LogicBit) → (mismatch Equal a b ≡ same Zero (notBit (xorBit a b))) × (unsure Equal a b ≡ isUnknown (notBit (xorBit a b)))
+same-or-x Zero Zero = (refl, refl)
+same-or-x Zero One = (refl, refl)
+same-or-x Zero X = (refl, refl)
+same-or-x Zero Z = (refl, refl)
+same-or-x One Zero = (refl, refl)
+same-or-x One One = (refl, refl)
+same-or-x One X = (refl, refl)
+same-or-x One Z = (refl, refl)
+same-or-x X b = (refl, refl)
+same-or-x Z b = (refl, refl)
+
+module _ (n : ℕ) (f g : ℕ → LogicBit) where
+  -- whether the bits of place i are the same, x if either is unknown
+  abbrev alikeAt : ℕ → LogicBit
+  alikeAt i = notBit (xorBit (f i) (g i))
+
+  through : (t : LogicBit → LogicBit → Bool) (p : LogicBit → Bool) → ((i : ℕ) → t (f i) (g i) ≡ p (alikeAt i))
+      → anyOf (onPair t) (tabulate n (λ i. (f i, g i))) ≡ anyOf p (tabulate n alikeAt)
+  through t p h =
+      any-tabulate (onPair t) n (λ i. (f i, g i)) ∙ gather-cong _||_ false n (λ i. t (f i) (g i)) (λ i. p (alikeAt i)) (λ i _. h i)
+      ∙ sym (any-tabulate p n alikeAt)
+
+  pub equal-and : decided Equal (tabulate n (λ i. (f i, g i))) ≡ reduceAnd (tabulate n (λ i. notBit (xorBit (f i) (g i))))
+  equal-and =
+      ap₂ (λ (x y : Bool). cond x Zero (cond y X One))
+      (through (mismatch Equal) (same Zero) (λ i. same-or-x (f i) (g i) .0))
+      (through (unsure Equal) isUnknown (λ i. same-or-x (f i) (g i) .1))
+
+pub compared-and : (a b : Vector) → compared Equal a b
+    ≡ reduceAnd
+    (tabulate (largerWidth (a .header) (b .header))
+    (λ i. notBit (xorBit (operandAt (operator Equal) a (b .header) i) (operandAt (operator Equal) b (a .header) i))))
+compared-and a b =
+    equal-and (largerWidth (a .header) (b .header)) (operandAt (operator Equal) a (b .header)) (operandAt (operator Equal) b (a .header))

@@ -1,0 +1,66 @@
+-- `compare_words::unchecked::compare`: the places over the two extents are those of the definition, and what is found of them gives the answer.
+use mathlib.Core.Path.{_≡_, ap, _∙_}
+use Prim.Native.Nat.{ℕ, _≤_}
+use native.Mathlib.Omega.{arith}
+use borrow.Author.Needs.{needs}
+use Rattle.bit.specs.declared.LogicBit.{LogicBit}
+use Rattle.words.specs.Planes.{wordCount, lent}
+use Rattle.value.specs.Checks.{vector}
+use Rattle.extension.proofs.Extension.{extent-narrow, settled}
+use Rattle.compare_words.specs.Compared.{operator, places, found, foundBit}
+use Rattle.compare_words.proofs.Places.{answer-found}
+use Rattle.compare_words.proofs.unchecked.compare.Statement.{statement}
+use Rattle.compare_words.proofs.unchecked.compare.Tie as tie
+
+operator-requires : tie.Need-operator-requires
+operator-requires c κs = search needs
+
+extent-requires : tie.Need-extent-requires
+extent-requires c κs = search needs
+
+extent-requires-2 : tie.Need-extent-requires-2
+extent-requires-2 c κs = search needs
+
+larger-requires : tie.Need-larger-requires
+larger-requires c κs = search needs
+
+scan-extents-requires : tie.Need-scan-extents-requires
+scan-extents-requires c κs =
+    let y = c .before in
+    let o = y .before .before in
+    let s = o .before .before .before .before .before in
+    let a = s .args in
+    let p = s .pre in
+    let hx = extent-narrow (o .operator .result) (a .a) (a .b) (lent (a .av .now) (a .au .now)) (y .before .extent .ensures) in
+    let hy = extent-narrow (o .operator .result) (a .b) (a .a) (lent (a .bv .now) (a .bu .now)) (y .extent2 .ensures) in
+    let long : (l w n : ℕ) → n ≤ w → l ≡ wordCount w → wordCount n ≤ l = λ l w n h e. omega (arith, h, e) in (
+      ((long _ _ _ hx (p .0 .0 .count), long _ _ _ hx (p .0 .1 .count)), (long _ _ _ hy (p .1 .0 .count), long _ _ _ hy (p .1 .1 .count))),
+      (omega (arith, hx, c .larger .ensures), omega (arith, hy, c .larger .ensures)),
+    )
+
+found-bit-requires : tie.Need-found-bit-requires
+found-bit-requires c κs = search needs
+
+returns : tie.Need-returns
+returns c =
+    let f = c .before in
+    let w = f .before in
+    let y = w .before in
+    let o = y .before .before in
+    let a = o .before .before .before .before .before .args in
+    let e = settled {A = LogicBit × LogicBit} (λ p q. (p, q)) (operator (a .op)) (a .a) (a .b) (a .av .now) (a .au .now) (a .bv .now) (a .bu .now) (o .operator .ensures)
+    (y .before .extent .ensures) (y .extent2 .ensures) _ (w .larger .ensures) in
+    c .found-bit .ensures ∙ ap foundBit (f .scan-extents .ensures ∙ ap (found (a .op)) e)
+    ∙ answer-found (a .op) (places (a .op) (vector (a .a) (lent (a .av .now) (a .au .now))) (vector (a .b) (lent (a .bv .now) (a .bu .now))))
+
+pub compare-spec : {M : Type 1} → statement M
+compare-spec =
+    tie.close
+    (tie.spec
+    operator-requires
+    extent-requires
+    extent-requires-2
+    larger-requires
+    scan-extents-requires
+    found-bit-requires
+    returns)

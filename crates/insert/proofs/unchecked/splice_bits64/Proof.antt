@@ -1,0 +1,129 @@
+-- `insert::unchecked::splice_bits64`: the words read out tell whether the bits stand there; else they are put in.
+use mathlib.Core.Path.{_≡_, sym, ap, ap₂, _∙_}
+use mathlib.Core.Bool.{not, _&&_}
+use Prim.Native.Nat.{ℕ, _+_, _-_, min}
+use native.Mathlib.Omega.{arith}
+use lib.Dec.{eqb}
+use lib.Bits.{bitAnd}
+use lib.ListN.{length}
+use Rattle.bit.specs.Rules.{same}
+use Rattle.words.specs.declared.Word.{Word}
+use Rattle.words.specs.Vector.{at}
+use Rattle.words.specs.Planes.{fromPlanes, bitOf, planesOf}
+use Rattle.words.proofs.Planes.{length-tabulate}
+use Rattle.bits.specs.Bits.{spliceCount}
+use Rattle.bits.proofs.Splice.{planes-again, spliced-none}
+use Rattle.insert.specs.Insert.{allBelow, stands}
+use Rattle.insert.proofs.Standing.{told-by-words, stands-spliced}
+use borrow.Author.Needs.{needs}
+use Rattle.insert.proofs.unchecked.splice_bits64.Statement.{statement}
+use Rattle.insert.proofs.unchecked.splice_bits64.Tie as tie
+
+returns : tie.Need-returns
+unfolding allBelow
+returns c =
+    let s = c .before .before .before in
+    let a = s .args in
+    let v = a .value .now in
+    let u = a .unknown .now in
+    let bs = fromPlanes (a .width) v u in
+    let e : spliceCount (length bs) (a .pos) (a .n) ≡ 0 = simp length-tabulate (omega (arith, c .if1 .taken)) in (
+      sym (ap (λ (k : ℕ). not (allBelow k (λ j. same (bitOf (a .bits) j) (at bs (a .pos + j))))) e),
+      planes-again (a .width) v u (s .pre .0) (s .pre .1) (λ k. c .before .before .slice-known .given k .fits) (λ k. c .before .slice-known2 .given k .fits)
+          ∙ ap planesOf (sym (spliced-none bs (a .pos) (a .n) (a .bits) (simp length-tabulate (c .if1 .taken)))),
+    )
+
+sub-least : tie.Need-sub-least
+sub-least c = search needs
+
+least-requires : tie.Need-least-requires
+least-requires c κs = search needs
+
+least-requires-2 : tie.Need-least-requires-2
+least-requires-2 c κs = search needs
+
+extract64-requires : tie.Need-extract64-requires
+extract64-requires c κs = search needs
+
+ones-requires : tie.Need-ones-requires
+ones-requires c κs = search needs
+
+is-word-requires : tie.Need-is-word-requires
+is-word-requires c κs = search needs
+
+same-length : tie.Need-same-length
+same-length c = search needs
+
+same-length-2 : tie.Need-same-length-2
+same-length-2 c = search needs
+
+returns-2 : tie.Need-returns-2
+returns-2 c =
+    let i = c .before in
+    let o = i .before .before .before in
+    let x = o .before in
+    let n = x .before .before .before in
+    let s = n .before .before .before .before .before in
+    let a = s .args in
+    let v = a .value .now in
+    let u = a .unknown .now in
+    let bs = fromPlanes (a .width) v u in
+    let told : i .is-word .result ≡ stands bs (a .pos) (a .n) (a .bits) =
+    i .is-word .ensures
+    ∙ ap₂ (λ (w : Word) (m : ℕ). eqb (w .value) (bitAnd (a .bits .value) m) && eqb (w .unknown) (bitAnd (a .bits .unknown) m)) (x .extract64 .ensures) (o .ones .ensures)
+    ∙ told-by-words bs (a .pos) (n .least2 .result) (a .bits) (omega (arith, n .least2 .ensures, n .before .least .ensures)) (i .before .struct-known2 .given .0 .fits) (i .before .struct-known2 .given .1 .0 .fits)
+    ∙ ap (λ (k : ℕ). allBelow k (λ j. same (bitOf (a .bits) j) (at bs (a .pos + j))))
+    (n .least2 .ensures ∙ ap (min (a .n)) (n .before .least .ensures ∙ ap (λ (k : ℕ). min 64 (k - a .pos)) (sym (length-tabulate (a .width) _)))) in (
+      sym (ap not (sym told ∙ c .if2 .taken)),
+      planes-again (a .width) v u (s .pre .0) (s .pre .1) (λ k. n .before .before .before .before .slice-known .given k .fits) (λ k. n .before .before .before .slice-known2 .given k .fits)
+          ∙ ap planesOf (sym (stands-spliced bs (a .pos) (a .n) (a .bits) (sym told ∙ c .if2 .taken))),
+    )
+
+splice64-requires : tie.Need-splice64-requires
+splice64-requires c κs = search needs
+
+same-length-3 : tie.Need-same-length-3
+same-length-3 c = search needs
+
+same-length-4 : tie.Need-same-length-4
+same-length-4 c = search needs
+
+returns-3 : tie.Need-returns-3
+returns-3 c =
+    let p = c .before .before .before .before in
+    let e = p .before .before .before in
+    let i = e .before in
+    let o = i .before .before .before in
+    let x = o .before in
+    let n = x .before .before .before in
+    let s = n .before .before .before .before .before in
+    let a = s .args in
+    let v = a .value .now in
+    let u = a .unknown .now in
+    let bs = fromPlanes (a .width) v u in
+    let told : i .is-word .result ≡ stands bs (a .pos) (a .n) (a .bits) =
+    i .is-word .ensures
+    ∙ ap₂ (λ (w : Word) (m : ℕ). eqb (w .value) (bitAnd (a .bits .value) m) && eqb (w .unknown) (bitAnd (a .bits .unknown) m)) (x .extract64 .ensures) (o .ones .ensures)
+    ∙ told-by-words bs (a .pos) (n .least2 .result) (a .bits) (omega (arith, n .least2 .ensures, n .before .least .ensures)) (i .before .struct-known2 .given .0 .fits) (i .before .struct-known2 .given .1 .0 .fits)
+    ∙ ap (λ (k : ℕ). allBelow k (λ j. same (bitOf (a .bits) j) (at bs (a .pos + j))))
+    (n .least2 .ensures ∙ ap (min (a .n)) (n .before .least .ensures ∙ ap (λ (k : ℕ). min 64 (k - a .pos)) (sym (length-tabulate (a .width) _)))) in
+    (sym (ap not (sym told ∙ e .if2 .left)), p .splice64 .ensures)
+
+pub splice-bits64-spec : {M : Type 1} → statement M
+splice-bits64-spec =
+    tie.close
+    (tie.spec
+    returns
+    sub-least
+    least-requires
+    least-requires-2
+    extract64-requires
+    ones-requires
+    is-word-requires
+    same-length
+    same-length-2
+    returns-2
+    splice64-requires
+    same-length-3
+    same-length-4
+    returns-3)

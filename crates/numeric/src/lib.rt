@@ -1,2 +1,0 @@
-// What a vector counts as beside a real.
-pub mod inner;

@@ -1,2 +1,0 @@
-pub mod OpLine
-pub mod Answers

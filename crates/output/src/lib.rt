@@ -1,2 +1,0 @@
-// The lines that a run of a step list writes.
-pub mod inner;

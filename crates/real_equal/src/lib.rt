@@ -1,0 +1,2 @@
+// What a vector counts as beside a real.
+pub mod unchecked;

@@ -1,0 +1,2 @@
+// The lines that a run of a step list writes.
+pub mod unchecked;

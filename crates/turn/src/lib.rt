@@ -1,2 +1,0 @@
-// The lines of a step that a run has added to the store.
-pub mod inner;
