@@ -52,7 +52,8 @@ pub mod bitwise;
 pub mod compare;
 mod narrow;
 pub mod planes;
-mod raw;
+#[doc(hidden)]
+pub mod raw;
 pub mod real;
 pub mod reduce;
 mod refusal;

@@ -137,21 +137,6 @@ pub fn run<'a>(
     out: &'a mut [u8; OUTPUT_BYTES],
 ) -> Run<'a> {
     let mut store = Store::new();
-    let output = run_into(&mut store, text, arena_value, arena_unknown, scratch_value, scratch_unknown, out);
-    Run { store, output }
-}
-
-/// [`run`] into the parts of a store that is there, whose cells are not read. A text that is no list leaves the four arrays as they were.
-#[doc(hidden)]
-pub fn run_into<'a>(
-    store: &mut Store,
-    text: &[u8],
-    arena_value: &mut [u64],
-    arena_unknown: &mut [u64],
-    scratch_value: &mut [u64],
-    scratch_unknown: &mut [u64],
-    out: &'a mut [u8; OUTPUT_BYTES],
-) -> &'a str {
     // A pointer and a length are those of one slice, which is lent for as long as the call runs; what is lent for writing overlaps nothing.
     let r = unsafe {
         raw::vowherunga_run(
@@ -173,5 +158,6 @@ pub fn run_into<'a>(
         )
     };
     store.count = r.count;
-    std::str::from_utf8(&out[..r.length]).unwrap_or_else(|e| unreachable!("the output is ASCII: {e}"))
+    let output = std::str::from_utf8(&out[..r.length]).unwrap_or_else(|e| unreachable!("the output is ASCII: {e}"));
+    Run { store, output }
 }

@@ -24,7 +24,7 @@
 //!
 //! // The arenas are full; the store comes back as it was.
 //! let Stored { answer, store } = store.add_step(and, &mut value, &mut unknown, &mut scratch_value, &mut scratch_unknown);
-//! assert_eq!((answer, store.count), (Err(Refusal::NoRoom), 3));
+//! assert_eq!((answer, store.count()), (Err(Refusal::NoRoom), 3));
 //! ```
 use crate::raw::store as raw;
 use crate::steps::Step;
@@ -34,8 +34,8 @@ use std::ops::Range;
 /// How many cells a store can have.
 pub const MAX_CELLS: usize = 320;
 
-/// A filled cell: where its words begin in both arenas, and its header.
-#[derive(Clone, Copy, Debug, PartialEq, Eq, Hash)]
+/// A cell: where its words begin in both arenas, and its header.
+#[derive(Clone, Copy, Debug, Default, PartialEq, Eq, Hash)]
 pub struct Cell {
     pub start: usize,
     pub header: Header,
@@ -44,18 +44,21 @@ pub struct Cell {
 impl Cell {
     /// The cell's words in either arena.
     pub fn words(self) -> Range<usize> {
-        self.start..self.start + planes::word_count(self.header.width)
+        self.start..self.start.saturating_add(planes::word_count(self.header.width))
     }
 }
 
-/// The first `count` cells are filled: where the words of each begin, its width and its marks. The arenas come beside it.
+/// Which cells are filled, where the words of each begin, its width and its marks. The arenas come beside it.
+///
+/// Stores are equal if all their places are, those that are not filled too.
+// One array for each part of a cell, as the exports take a store.
 #[derive(Clone, Debug, PartialEq, Eq)]
 pub struct Store {
-    pub starts: [usize; MAX_CELLS],
-    pub widths: [u32; MAX_CELLS],
-    pub signs: [bool; MAX_CELLS],
-    pub fills: [bool; MAX_CELLS],
-    pub count: usize,
+    pub(crate) starts: [usize; MAX_CELLS],
+    pub(crate) widths: [u32; MAX_CELLS],
+    pub(crate) signs: [bool; MAX_CELLS],
+    pub(crate) fills: [bool; MAX_CELLS],
+    pub(crate) count: usize,
 }
 
 /// The number of the new cell or a refusal, and the store, which comes back either way.
@@ -77,13 +80,24 @@ impl Default for Store {
 impl Store {
     /// An empty store.
     pub fn new() -> Store {
+        Store::from_parts(&[Cell::default(); MAX_CELLS], 0)
+    }
+
+    /// The store that has these cells in its places, of which the first `count` are filled. Nothing is checked here: a count above
+    /// [`MAX_CELLS`], or cells that do not agree with the arenas lent beside them, are refused by 14 in each call.
+    pub fn from_parts(places: &[Cell; MAX_CELLS], count: usize) -> Store {
         Store {
-            starts: [0; MAX_CELLS],
-            widths: [0; MAX_CELLS],
-            signs: [false; MAX_CELLS],
-            fills: [false; MAX_CELLS],
-            count: 0,
+            starts: places.map(|cell| cell.start),
+            widths: places.map(|cell| cell.header.width),
+            signs: places.map(|cell| cell.header.is_signed),
+            fills: places.map(|cell| cell.header.is_fill),
+            count,
         }
+    }
+
+    /// How many cells are filled.
+    pub fn count(&self) -> usize {
+        self.count
     }
 
     /// A filled cell by its number.

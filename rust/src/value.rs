@@ -6,7 +6,7 @@ use crate::{raw, Refusal};
 /// A vector's width and marks; its planes come beside it. In and, or, xor, equality and the case forms a fill is stretched: at the larger width all
 /// its bits become its bit 0. Elsewhere, in merge and wildcard equality too, it is its own bits.
 #[repr(C)]
-#[derive(Clone, Copy, Debug, PartialEq, Eq, Hash)]
+#[derive(Clone, Copy, Debug, Default, PartialEq, Eq, Hash)]
 pub struct Header {
     pub width: u32,
     pub is_signed: bool,
@@ -24,14 +24,9 @@ impl Operand {
     /// How an operand is passed: whether it is a real, then a header and a real, of which one counts.
     #[inline(always)]
     pub(crate) fn parts(self) -> (bool, Header, f64) {
-        let none = Header {
-            width: 0,
-            is_signed: false,
-            is_fill: false,
-        };
         match self {
             Operand::Vector(header) => (false, header, 0.0),
-            Operand::Real(real) => (true, none, real),
+            Operand::Real(real) => (true, Header::default(), real),
         }
     }
 }

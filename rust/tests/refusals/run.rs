@@ -1,7 +1,9 @@
 //! The run of a step list: where it is refused, what its output says, and that what was there stays.
 use crate::lent::Lent;
-use vowherunga::steps::{run, run_into, OUTPUT_BYTES};
-use vowherunga::store::{Store, MAX_CELLS};
+use vowherunga::raw;
+use vowherunga::steps::{run, OUTPUT_BYTES};
+use vowherunga::store::{Cell, Store, MAX_CELLS};
+use vowherunga::Header;
 
 const STOOD: u64 = 0x0123_4567_89ab_cdef;
 
@@ -15,7 +17,7 @@ fn runs(text: &str, lengths: [usize; 4]) -> (String, usize, [Vec<u64>; 4]) {
     let [av, au, sv, su] = &mut planes;
     let mut out = buffer();
     let ran = run(text.as_bytes(), av.plane(), au.plane(), sv.plane(), su.plane(), &mut out);
-    let (output, count) = (ran.output.to_string(), ran.store.count);
+    let (output, count) = (ran.output.to_string(), ran.store.count());
     assert!(
         out[output.len()..].iter().all(|byte| *byte == 0xee),
         "a byte behind the output was written"
@@ -52,42 +54,77 @@ fn of_a_text() {
     }
 }
 
-/// The store after a run into parts that hold something else, its output, and the planes.
-fn runs_into(text: &str) -> (Store, String, [Vec<u64>; 4]) {
-    let mut store = other_store();
-    let mut planes = [4, 4, 1, 1].map(|words| Lent::new(&vec![STOOD; words]));
-    let [av, au, sv, su] = &mut planes;
-    let mut out = buffer();
-    let output = run_into(
-        &mut store,
-        text.as_bytes(),
-        av.plane(),
-        au.plane(),
-        sv.plane(),
-        su.plane(),
-        &mut out,
-    )
-    .to_string();
-    (store, output, planes.map(Lent::left))
+/// The arrays that a store is passed in.
+#[derive(Clone, Debug, PartialEq)]
+struct Arrays {
+    starts: [usize; MAX_CELLS],
+    widths: [u32; MAX_CELLS],
+    signs: [bool; MAX_CELLS],
+    fills: [bool; MAX_CELLS],
 }
 
-/// A store that no run leaves.
-fn other_store() -> Store {
-    Store {
-        starts: std::array::from_fn(|i| 1000 + i),
-        widths: std::array::from_fn(|i| 7 + i as u32),
-        signs: std::array::from_fn(|i| i % 2 == 0),
-        fills: std::array::from_fn(|i| i % 3 == 0),
-        count: MAX_CELLS,
+impl Arrays {
+    /// Those of a store that no run leaves.
+    fn other() -> Arrays {
+        Arrays {
+            starts: std::array::from_fn(|i| 1000 + i),
+            widths: std::array::from_fn(|i| 7 + i as u32),
+            signs: std::array::from_fn(|i| i % 2 == 0),
+            fills: std::array::from_fn(|i| i % 3 == 0),
+        }
     }
+
+    fn store(&self, count: usize) -> Store {
+        let places = std::array::from_fn(|i| Cell {
+            start: self.starts[i],
+            header: Header {
+                width: self.widths[i],
+                is_signed: self.signs[i],
+                is_fill: self.fills[i],
+            },
+        });
+        Store::from_parts(&places, count)
+    }
+}
+
+/// The arrays after a run into those of another store, how many cells it left, its output, and the planes.
+fn runs_into(text: &str) -> (Arrays, usize, String, [Vec<u64>; 4]) {
+    let mut arrays = Arrays::other();
+    let mut planes = [4, 4, 1, 1].map(|words| Lent::new(&vec![STOOD; words]));
+    let mut out = buffer();
+    let [(av, av_len), (au, au_len), (sv, sv_len), (su, su_len)] = planes.each_mut().map(|lent| {
+        let plane = lent.plane();
+        (plane.as_mut_ptr(), plane.len())
+    });
+    let r = unsafe {
+        raw::store::vowherunga_run(
+            text.as_ptr(),
+            text.len(),
+            av,
+            av_len,
+            au,
+            au_len,
+            sv,
+            sv_len,
+            su,
+            su_len,
+            &mut arrays.starts,
+            &mut arrays.widths,
+            &mut arrays.signs,
+            &mut arrays.fills,
+            &mut *out,
+        )
+    };
+    let output = String::from_utf8(out[..r.length].to_vec()).unwrap();
+    (arrays, r.count, output, planes.map(Lent::left))
 }
 
 #[test]
 fn of_a_text_leaves_the_store_arrays() {
     for text in no_lists() {
-        let (store, output, planes) = runs_into(&text);
-        assert_eq!(output, "refused=6\nstep=0\n");
-        assert_eq!(store, Store { count: 0, ..other_store() }, "a refused run wrote the store's arrays");
+        let (arrays, count, output, planes) = runs_into(&text);
+        assert_eq!((count, &output[..]), (0, "refused=6\nstep=0\n"));
+        assert_eq!(arrays, Arrays::other(), "a refused run wrote the store's arrays");
         assert!(planes.iter().flatten().all(|word| *word == STOOD), "a refused run wrote");
     }
     // where the text is a list, the arrays are those of the run's store
@@ -100,8 +137,8 @@ fn of_a_text_leaves_the_store_arrays() {
         let [av, au, sv, su] = &mut planes;
         let mut out = buffer();
         let ran = run(text.as_bytes(), av, au, sv, su, &mut out);
-        let (store, output, left) = runs_into(&text);
-        assert_eq!((&store, &output[..]), (&ran.store, ran.output));
+        let (arrays, count, output, left) = runs_into(&text);
+        assert_eq!((&arrays.store(count), &output[..]), (&ran.store, ran.output));
         assert_eq!(left, planes);
     }
 }

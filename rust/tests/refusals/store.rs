@@ -3,13 +3,14 @@ use crate::lent::Lent;
 use crate::table::{fills_and_reals, vectors};
 use vowherunga::planes::word_count;
 use vowherunga::steps::{Op, Step};
-use vowherunga::store::{Store, Stored, MAX_CELLS};
+use vowherunga::store::{Cell, Store, Stored, MAX_CELLS};
 use vowherunga::{Header, Refusal, MAX_WIDTH};
 
-/// A store and what is lent beside it.
+/// The parts of a store and what is lent beside it.
 #[derive(Clone)]
 struct State {
-    store: Store,
+    places: [Cell; MAX_CELLS],
+    count: usize,
     arenas: [Vec<u64>; 2],
     scratch: [Vec<u64>; 2],
 }
@@ -22,16 +23,19 @@ fn header(width: u32, is_signed: bool, is_fill: bool) -> Header {
 
 /// Cells of zeros with these headers, one behind the other, and some words behind them.
 fn state(headers: &[Header], behind: usize) -> State {
-    let mut store = Store::new();
+    let mut places = [Cell::default(); MAX_CELLS];
     let mut end = 0;
-    for (k, h) in headers.iter().enumerate() {
-        (store.starts[k], store.widths[k], store.signs[k], store.fills[k]) = (end, h.width, h.is_signed, h.is_fill);
-        end += word_count(h.width);
+    for (place, header) in places.iter_mut().zip(headers) {
+        *place = Cell {
+            start: end,
+            header: *header,
+        };
+        end += word_count(header.width);
     }
-    store.count = headers.len();
     let arena = [vec![0; end], vec![STOOD; behind]].concat();
     State {
-        store,
+        places,
+        count: headers.len(),
         arenas: [arena.clone(), arena],
         scratch: [vec![STOOD; 4], vec![STOOD; 4]],
     }
@@ -50,37 +54,39 @@ fn five_cells() -> State {
 }
 
 impl State {
+    fn store(&self) -> Store {
+        Store::from_parts(&self.places, self.count)
+    }
+
     /// A call that answers a number (0: done), after which a refused one has changed nothing; a store that did add a cell has it behind the others.
     fn answers(&self, want: u8, of: &str, call: impl FnOnce(Store, [&mut [u64]; 4]) -> Stored) {
         let mut arenas = self.arenas.each_ref().map(|plane| Lent::new(plane));
         let mut scratch = self.scratch.each_ref().map(|plane| Lent::new(plane));
         let ([av, au], [sv, su]) = (&mut arenas, &mut scratch);
-        let Stored { answer, store } = call(self.store.clone(), [av.plane(), au.plane(), sv.plane(), su.plane()]);
-        let left = State {
-            store,
-            arenas: arenas.map(Lent::left),
-            scratch: scratch.map(Lent::left),
-        };
+        let Stored { answer, store } = call(self.store(), [av.plane(), au.plane(), sv.plane(), su.plane()]);
+        let (arenas, scratch) = (arenas.map(Lent::left), scratch.map(Lent::left));
         assert_eq!(answer.map_err(Refusal::number).err().unwrap_or(0), want, "{of}");
         match answer {
-            Ok(cell) => self.has_grown(&left, cell, of),
-            Err(_) => assert!(left == *self, "a refused call changed something: {of}"),
+            Ok(cell) => self.has_grown(&store, &arenas, cell, of),
+            Err(_) => {
+                let same = store == self.store() && arenas == self.arenas && scratch == self.scratch;
+                assert!(same, "a refused call changed something: {of}");
+            }
         }
     }
 
     /// The new cell is the next one, its words lie behind the last one's, and nothing else has changed in the store and in the arenas.
-    fn has_grown(&self, left: &State, cell: usize, of: &str) {
-        let count = self.store.count;
-        assert_eq!((cell, left.store.count), (count, count + 1), "{of}");
-        let new = left.store.cell(cell).unwrap();
-        let end = (0..count).map(|k| word_count(self.store.widths[k])).sum::<usize>();
+    fn has_grown(&self, store: &Store, arenas: &[Vec<u64>; 2], cell: usize, of: &str) {
+        let count = self.count;
+        assert_eq!((cell, store.count()), (count, count + 1), "{of}");
+        let new = store.cell(cell).unwrap();
+        let filled = &self.places[..count];
+        let end = filled.iter().map(|cell| word_count(cell.header.width)).sum::<usize>();
         assert_eq!(new.start, end, "{of}");
-        let mut store = self.store.clone();
-        (store.starts[count], store.widths[count]) = (new.start, new.header.width);
-        (store.signs[count], store.fills[count]) = (new.header.is_signed, new.header.is_fill);
-        store.count = count + 1;
-        assert!(store == left.store, "another cell changed: {of}");
-        for (before, after) in self.arenas.iter().zip(&left.arenas) {
+        let mut places = self.places;
+        places[count] = new;
+        assert!(*store == Store::from_parts(&places, count + 1), "another cell changed: {of}");
+        for (before, after) in self.arenas.iter().zip(arenas) {
             let words = new.words();
             let same = before[..words.start] == after[..words.start] && before[words.end..] == after[words.end..];
             assert!(same, "a word beside the new cell changed: {of}");
@@ -115,12 +121,6 @@ impl State {
     }
 }
 
-impl PartialEq for State {
-    fn eq(&self, other: &State) -> bool {
-        self.store == other.store && self.arenas == other.arenas && self.scratch == other.scratch
-    }
-}
-
 /// A state that differs from the five cells in one thing.
 fn changed(change: impl FnOnce(&mut State)) -> State {
     let mut state = five_cells();
@@ -134,22 +134,22 @@ fn of_a_store_that_disagrees() {
     // more than 320 cells
     for count in [321, 322, usize::MAX] {
         let mut state = state(&[header(0, false, false); MAX_CELLS], 4);
-        state.store.count = count;
+        state.count = count;
         state.both(14);
     }
     // arenas of different length
     changed(|s| s.arenas[0].truncate(9)).both(14);
     changed(|s| s.arenas[1].truncate(9)).both(14);
     // spans that do not begin where the last one ended
-    changed(|s| s.store.starts[0] = 1).both(14);
-    changed(|s| s.store.starts[1] = 1).both(14);
-    changed(|s| s.store.starts[4] = 6).both(14);
-    changed(|s| s.store.starts[4] = usize::MAX).both(14);
-    changed(|s| s.store.widths[1] = 65).both(14);
+    changed(|s| s.places[0].start = 1).both(14);
+    changed(|s| s.places[1].start = 1).both(14);
+    changed(|s| s.places[4].start = 6).both(14);
+    changed(|s| s.places[4].start = usize::MAX).both(14);
+    changed(|s| s.places[1].header.width = 65).both(14);
     // a span past the arenas
     changed(|s| s.arenas.iter_mut().for_each(|a| a.truncate(5))).both(14);
-    changed(|s| s.store.widths[4] = 6 * 64).both(14);
-    changed(|s| s.store.widths[4] = u32::MAX).both(14);
+    changed(|s| s.places[4].header.width = 6 * 64).both(14);
+    changed(|s| s.places[4].header.width = u32::MAX).both(14);
     changed(|s| s.arenas = [vec![], vec![]]).both(14);
     // a bit at or above a cell's width: 3
     for arena in [0, 1] {
@@ -159,7 +159,7 @@ fn of_a_store_that_disagrees() {
         changed(|s| s.arenas[arena][5] = 1 << 63).both(14);
     }
     // an empty fill: 4
-    changed(|s| s.store.fills[3] = true).both(14);
+    changed(|s| s.places[3].header.is_fill = true).both(14);
 }
 
 /// A cell wider than any vector, in arenas that are long enough: 1.
@@ -175,15 +175,14 @@ fn of_a_cell_that_is_too_wide() {
 /// What stands behind the filled cells is of no account.
 #[test]
 fn of_cells_not_filled() {
-    let state = changed(|s| {
-        s.store.starts[5..].fill(usize::MAX);
-        s.store.widths[5..].fill(u32::MAX);
-        s.store.fills[5..].fill(true);
-    });
-    state.both(0);
+    let no_cell = Cell {
+        start: usize::MAX,
+        header: header(u32::MAX, false, true),
+    };
+    changed(|s| s.places[5..].fill(no_cell)).both(0);
     changed(|s| s.arenas.iter_mut().for_each(|a| a[6..].fill(u64::MAX))).both(0);
     let mut empty = five_cells();
-    empty.store.count = 0;
+    empty.count = 0;
     empty.input(0, header(64, true, true), &[7], &[7]);
     empty.step(11, Op::Not, [0, 0, 0]);
 }

@@ -3,21 +3,17 @@ use crate::lent::Lent;
 use std::collections::BTreeMap;
 use vowherunga::reference::steps::{self, Machine, Memory};
 use vowherunga::steps::{run, OUTPUT_BYTES};
-use vowherunga::store::Store;
+use vowherunga::store::{Cell, Store, MAX_CELLS};
 
 /// The store whose cells are a machine's.
 pub fn store_of(machine: &Machine) -> Store {
-    let mut store = Store::new();
+    let mut places = [Cell::default(); MAX_CELLS];
     let mut start = 0;
-    for (k, v) in machine.cells.iter().enumerate() {
-        store.starts[k] = start;
-        store.widths[k] = v.header.width;
-        store.signs[k] = v.header.is_signed;
-        store.fills[k] = v.header.is_fill;
+    for (place, v) in places.iter_mut().zip(&machine.cells) {
+        *place = Cell { start, header: v.header };
         start += v.value.len();
     }
-    store.count = machine.cells.len();
-    store
+    Store::from_parts(&places, machine.cells.len())
 }
 
 /// What a call leaves of lent copies of a memory.

@@ -108,7 +108,7 @@ fn known_exactly_where_completions_agree() {
         let drawn = rng.list(&shape);
         let memory = rng.memory([drawn.words; 2], [1; 2]);
         let left = runs.run(drawn.list.text().as_bytes(), &memory);
-        let ran = left.store.count - drawn.list.inputs.len();
+        let ran = left.store.count() - drawn.list.inputs.len();
         for (k, step) in drawn.list.steps.iter().take(ran).enumerate() {
             let nothing = Small {
                 width: 0,

@@ -16,7 +16,7 @@ fn drawn_lists() {
         let drawn = rng.list(&shape);
         let memory = rng.memory_for(&drawn);
         let left = runs.compare(drawn.list.text().as_bytes(), &memory);
-        let done = left.store.count.saturating_sub(drawn.list.inputs.len());
+        let done = left.store.count().saturating_sub(drawn.list.inputs.len());
         drawn.list.steps[..done]
             .iter()
             .for_each(|step| ops[usize::from(step.op.code())] += 1);
@@ -51,7 +51,7 @@ fn full_lists() {
         for words in [drawn.words, drawn.words - 1] {
             let memory = rng.memory([words; 2], [drawn.largest; 2]);
             let left = runs.compare(text.as_bytes(), &memory);
-            assert_eq!(left.store.count, 320 - usize::from(words < drawn.words));
+            assert_eq!(left.store.count(), 320 - usize::from(words < drawn.words));
         }
     }
     runs.expect(&[("done", 100), ("refused=13", 100)]);
