@@ -51,6 +51,7 @@ mod bit;
 pub mod bitwise;
 pub mod compare;
 mod narrow;
+mod parse;
 pub mod planes;
 #[doc(hidden)]
 pub mod raw;
@@ -66,6 +67,7 @@ pub mod reference;
 
 pub use bit::LogicBit;
 pub use narrow::Narrow;
+pub use parse::ParseError;
 pub use planes::{Word, MAX_WIDTH};
 pub use reduce::Truth;
 pub use refusal::Refusal;

@@ -54,6 +54,23 @@ impl Refusal {
         Refusal::ALL.into_iter().find(|r| r.number() == number)
     }
 
+    /// The condition in words.
+    fn reason(self) -> &'static str {
+        match self {
+            Refusal::TooWide => "the width is above 1,048,576 bits",
+            Refusal::PlaneLength => "a plane does not have exactly the words of its width, or a real comes with words",
+            Refusal::BitAboveWidth => "a bit is set at or above the width",
+            Refusal::EmptyFill => "a fill has width 0",
+            Refusal::OutputLength => "an output plane does not have exactly the words of the result",
+            Refusal::BadFormat => "the text is no step list, or it is longer than 65,536 bytes",
+            Refusal::BadArms => "the arms of a selection differ in width, or one of them is a fill",
+            Refusal::NoSuchCell => "an operand names a cell that is not filled",
+            Refusal::StoreFull => "all 320 cells of the store are filled",
+            Refusal::NoRoom => "an arena behind the last cell, or a scratch plane, has too few words for the new cell",
+            Refusal::BadStore => "the arenas differ in length, or the store does not agree with them",
+        }
+    }
+
     /// What a call that answers 0 or a refusal's number says.
     #[inline]
     pub(crate) fn of_call(answer: u8) -> Result<(), Refusal> {
@@ -72,7 +89,7 @@ impl Refusal {
 
 impl fmt::Display for Refusal {
     fn fmt(&self, f: &mut fmt::Formatter) -> fmt::Result {
-        write!(f, "refused by {}: {self:?}", self.number())
+        write!(f, "refused by {}: {}", self.number(), self.reason())
     }
 }
 

@@ -21,46 +21,51 @@
 //! ```
 use crate::raw::store as raw;
 use crate::store::Store;
+use crate::ParseError;
 use std::fmt;
+use std::str::FromStr;
 
 /// The ops of a step list. Operands are cells: a, then b, then c; c of [`Op::Insert`] is a position.
+///
+/// Each has a code by which the exports know it. A code is never reused and never shifted when ops come or go.
 #[derive(Clone, Copy, Debug, PartialEq, Eq, Hash)]
+#[repr(u8)]
 pub enum Op {
     /// and: [`bitwise_and`](crate::bitwise::bitwise_and)
-    And,
+    And = 0,
     /// or: [`bitwise_or`](crate::bitwise::bitwise_or)
-    Or,
+    Or = 1,
     /// xor: [`bitwise_xor`](crate::bitwise::bitwise_xor)
-    Xor,
+    Xor = 2,
     /// not: [`bitwise_not`](crate::bitwise::bitwise_not)
-    Not,
+    Not = 3,
     /// mrg: [`merge_unknown`](crate::bitwise::merge_unknown)
-    Merge,
+    Merge = 4,
     /// rand: [`reduce_and`](crate::reduce::reduce_and)
-    ReduceAnd,
+    ReduceAnd = 5,
     /// ror: [`reduce_or`](crate::reduce::reduce_or)
-    ReduceOr,
+    ReduceOr = 6,
     /// rxor: [`reduce_xor`](crate::reduce::reduce_xor)
-    ReduceXor,
+    ReduceXor = 7,
     /// eq: [`is_equal`](crate::compare::is_equal)
-    Equal,
+    Equal = 8,
     /// ceq: [`case_eq`](crate::compare::case_eq)
-    CaseEqual,
+    CaseEqual = 9,
     /// cz: [`casez_eq`](crate::compare::casez_eq)
-    CasezEqual,
+    CasezEqual = 10,
     /// cx: [`casex_eq`](crate::compare::casex_eq)
-    CasexEqual,
+    CasexEqual = 11,
     /// weq: [`wildcard_eq`](crate::compare::wildcard_eq)
-    WildcardEqual,
+    WildcardEqual = 12,
     /// land: [`logic_and`](crate::reduce::logic_and)
-    LogicAnd,
+    LogicAnd = 13,
     /// lor: [`logic_or`](crate::reduce::logic_or)
-    LogicOr,
+    LogicOr = 14,
     /// sel: b where a is true, c where it is false, both merged where that is unknown. The arms b and c have one width and are no fills; the
     /// result is signed if both are.
-    Select,
+    Select = 15,
     /// ins: the lowest bits of b, at most 64, put into a at position c; what would lie above a is left out. The header is that of a.
-    Insert,
+    Insert = 16,
 }
 
 impl Op {
@@ -84,24 +89,52 @@ impl Op {
         Op::Insert,
     ];
 
-    const NAMES: [&'static str; 17] = [
-        "and", "or", "xor", "not", "mrg", "rand", "ror", "rxor", "eq", "ceq", "cz", "cx", "weq", "land", "lor", "sel", "ins",
-    ];
-
-    /// The place in [`Op::ALL`].
+    /// The number that the op has for good.
     pub fn code(self) -> u8 {
         self as u8
     }
 
+    /// The op that has the code, if one has.
+    pub fn from_code(code: u8) -> Option<Op> {
+        Op::ALL.into_iter().find(|op| op.code() == code)
+    }
+
     /// The name that a step list has for the op.
     pub fn name(self) -> &'static str {
-        Op::NAMES[usize::from(self.code())]
+        match self {
+            Op::And => "and",
+            Op::Or => "or",
+            Op::Xor => "xor",
+            Op::Not => "not",
+            Op::Merge => "mrg",
+            Op::ReduceAnd => "rand",
+            Op::ReduceOr => "ror",
+            Op::ReduceXor => "rxor",
+            Op::Equal => "eq",
+            Op::CaseEqual => "ceq",
+            Op::CasezEqual => "cz",
+            Op::CasexEqual => "cx",
+            Op::WildcardEqual => "weq",
+            Op::LogicAnd => "land",
+            Op::LogicOr => "lor",
+            Op::Select => "sel",
+            Op::Insert => "ins",
+        }
     }
 }
 
 impl fmt::Display for Op {
     fn fmt(&self, f: &mut fmt::Formatter) -> fmt::Result {
-        f.write_str(self.name())
+        f.pad(self.name())
+    }
+}
+
+impl FromStr for Op {
+    type Err = ParseError;
+
+    /// The op that a step list calls so.
+    fn from_str(name: &str) -> Result<Op, ParseError> {
+        Op::ALL.into_iter().find(|op| op.name() == name).ok_or(ParseError::NotAnOp)
     }
 }
 

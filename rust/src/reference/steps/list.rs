@@ -86,8 +86,7 @@ impl List {
             list.inputs.push(vector(kind, digits)?);
         }
         for _ in 0..steps {
-            let name = next()?;
-            let op = Op::ALL.into_iter().find(|op| op.name() == name)?;
+            let op = next()?.parse().ok()?;
             let mut number = || next()?.parse().ok();
             let (a, b, c) = (number()?, number()?, number()?);
             list.steps.push(Step { op, a, b, c });
