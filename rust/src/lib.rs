@@ -44,6 +44,9 @@
 //! # }
 //! ```
 //!
+//! The functions take planes by their position. [`VectorRef`] and [`PlanesMut`] hold them under their names, so that a value plane is not
+//! taken for an unknown one, and have each operator as a method.
+//!
 //! Vectors can be kept as the cells of a [`store`], and a whole list of steps on them can be run from its text ([`steps::run`]).
 //!
 //! The feature `reference` adds the Rust program whose behaviour the library keeps, for comparisons; it needs that program's source.
@@ -61,6 +64,7 @@ mod refusal;
 pub mod steps;
 pub mod store;
 pub mod value;
+mod vector;
 
 #[cfg(feature = "reference")]
 pub mod reference;
@@ -72,3 +76,4 @@ pub use planes::{Word, MAX_WIDTH};
 pub use reduce::Truth;
 pub use refusal::Refusal;
 pub use value::{Header, Operand};
+pub use vector::{OperandRef, PlanesMut, VectorMut, VectorRef};

@@ -1,5 +1,6 @@
 //! Vectors of at most 64 bits, held by value.
-use crate::{bitwise, compare, raw, value, Header, LogicBit, Operand, Refusal, Truth, Word};
+use crate::{bitwise, compare, raw, value, Header, LogicBit, Operand, Refusal, Truth, VectorRef, Word};
+use std::fmt;
 
 /// A vector of at most 64 bits: its header and a word of each plane, checked once when it is made. No call on it is refused, and each answers
 /// as the function of the same name does on planes of one word.
@@ -10,10 +11,10 @@ pub struct Narrow {
 }
 
 /// An operator of two vectors over planes.
-type OfPlanes = fn(Header, &[u64], &[u64], Header, &[u64], &[u64], &mut [u64], &mut [u64]) -> Result<Header, Refusal>;
+pub(crate) type OfPlanes = fn(Header, &[u64], &[u64], Header, &[u64], &[u64], &mut [u64], &mut [u64]) -> Result<Header, Refusal>;
 
 /// A comparison of two vectors over planes.
-type ComparesPlanes = fn(Header, &[u64], &[u64], Header, &[u64], &[u64]) -> Result<LogicBit, Refusal>;
+pub(crate) type ComparesPlanes = fn(Header, &[u64], &[u64], Header, &[u64], &[u64]) -> Result<LogicBit, Refusal>;
 
 /// The result's bits.
 #[cold]
@@ -181,5 +182,14 @@ impl Narrow {
     #[inline]
     pub fn wildcard_eq(self, other: Narrow) -> LogicBit {
         self.compare(other, raw::vowherunga_wildcard_eq_word, compare::wildcard_eq)
+    }
+}
+
+impl fmt::Display for Narrow {
+    /// The bits, highest first.
+    fn fmt(&self, f: &mut fmt::Formatter) -> fmt::Result {
+        let (value, unknown) = (&[self.bits.value], &[self.bits.unknown]);
+        let header = self.header;
+        VectorRef { header, value, unknown }.fmt(f)
     }
 }

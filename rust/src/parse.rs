@@ -1,4 +1,5 @@
-//! Why a text is no bit or no op.
+//! Why a text is no bit, no vector or no op.
+use crate::Refusal;
 use std::{error::Error, fmt};
 
 #[derive(Clone, Copy, Debug, PartialEq, Eq, Hash)]
@@ -9,6 +10,8 @@ pub enum ParseError {
     NotOneBit,
     /// No op has the name.
     NotAnOp,
+    /// The vector is too wide, or a lent plane is not exactly its word count: 1 or 5.
+    Refused(Refusal),
 }
 
 impl fmt::Display for ParseError {
@@ -17,8 +20,15 @@ impl fmt::Display for ParseError {
             ParseError::NotABit { found, at } => write!(f, "{found:?} at byte {at} is none of 0, 1, x and z"),
             ParseError::NotOneBit => write!(f, "one bit is wanted: 0, 1, x or z"),
             ParseError::NotAnOp => write!(f, "no op has the name"),
+            ParseError::Refused(refusal) => refusal.fmt(f),
         }
     }
 }
 
 impl Error for ParseError {}
+
+impl From<Refusal> for ParseError {
+    fn from(refusal: Refusal) -> ParseError {
+        ParseError::Refused(refusal)
+    }
+}

@@ -16,8 +16,7 @@
 //!
 //! // The cells are there as well: the last has one bit, which is x.
 //! let last = ran.store.cell(3).unwrap();
-//! assert_eq!(last.header.width, 1);
-//! assert_eq!((&value[last.words()], &unknown[last.words()]), (&[0][..], &[1][..]));
+//! assert_eq!(last.vector(&value, &unknown).unwrap().to_string(), "x");
 //! ```
 use crate::raw::store as raw;
 use crate::store::Store;

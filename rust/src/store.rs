@@ -19,8 +19,7 @@
 //! let and = Step { op: Op::And, a: 0, b: 1, c: 0 };
 //! let Stored { answer, store } = store.add_step(and, &mut value, &mut unknown, &mut scratch_value, &mut scratch_unknown);
 //! assert_eq!(answer, Ok(2));
-//! let words = store.cell(2).unwrap().words();
-//! assert_eq!((&value[words.clone()], &unknown[words]), (&[0b00][..], &[0b01][..]));
+//! assert_eq!(store.cell(2).unwrap().vector(&value, &unknown).unwrap().to_string(), "0x");
 //!
 //! // The arenas are full; the store comes back as it was.
 //! let Stored { answer, store } = store.add_step(and, &mut value, &mut unknown, &mut scratch_value, &mut scratch_unknown);
@@ -28,7 +27,7 @@
 //! ```
 use crate::raw::store as raw;
 use crate::steps::Step;
-use crate::{planes, Header, Refusal};
+use crate::{planes, Header, PlanesMut, Refusal, VectorRef};
 use std::ops::Range;
 
 /// How many cells a store can have.
@@ -45,6 +44,15 @@ impl Cell {
     /// The cell's words in either arena.
     pub fn words(self) -> Range<usize> {
         self.start..self.start.saturating_add(planes::word_count(self.header.width))
+    }
+
+    /// The cell's vector, if the arenas have all its words.
+    pub fn vector<'a>(self, arena_value: &'a [u64], arena_unknown: &'a [u64]) -> Option<VectorRef<'a>> {
+        Some(VectorRef {
+            header: self.header,
+            value: arena_value.get(self.words())?,
+            unknown: arena_unknown.get(self.words())?,
+        })
     }
 }
 
@@ -141,6 +149,11 @@ impl Store {
             )
         };
         self.stored(r)
+    }
+
+    /// [`Store::add_input`]
+    pub fn add_vector(self, v: VectorRef, arenas: PlanesMut) -> Stored {
+        self.add_input(v.header, v.value, v.unknown, arenas.value, arenas.unknown)
     }
 
     /// Adds the result of a step as the next cell. It is worked out at the front of the scratch planes and copied from there as an input is. An

@@ -1,7 +1,7 @@
 //! A vector's header, an operand, the check of a vector, and the constructors. A constructor writes two lent planes whole and gives the
-//! vector's header. A width above [`MAX_WIDTH`](crate::MAX_WIDTH) becomes that. A plane that is not exactly
+//! vector's header. A width above [`MAX_WIDTH`] becomes that. A plane that is not exactly
 //! [`word_count`](crate::planes::word_count) words of the width is refused by 5, and nothing is written.
-use crate::{raw, Refusal};
+use crate::{raw, LogicBit, ParseError, Refusal, MAX_WIDTH};
 
 /// A vector's width and marks; its planes come beside it. In and, or, xor, equality and the case forms a fill is stretched: at the larger width all
 /// its bits become its bit 0. Elsewhere, in merge and wildcard equality too, it is its own bits.
@@ -46,7 +46,7 @@ pub(crate) fn header(r: raw::HeaderResult) -> Result<Header, Refusal> {
 // writing overlaps no other.
 
 /// Whether header and planes are a vector, as every operator asks of an operand: refused by 1 (width above
-/// [`MAX_WIDTH`](crate::MAX_WIDTH)), 2 (a plane that is not exactly its word count), 3 (a bit set at or above the width) or 4 (a fill of
+/// [`MAX_WIDTH`]), 2 (a plane that is not exactly its word count), 3 (a bit set at or above the width) or 4 (a fill of
 /// width 0), in this order.
 #[inline]
 pub fn check_vector(h: Header, value: &[u64], unknown: &[u64]) -> Result<(), Refusal> {
@@ -69,4 +69,31 @@ pub fn zero(width: u32, value: &mut [u64], unknown: &mut [u64]) -> Result<Header
 #[inline]
 pub fn from_u64(val: u64, width: u32, value: &mut [u64], unknown: &mut [u64]) -> Result<Header, Refusal> {
     header(unsafe { raw::vowherunga_from_u64(val, width, value.as_mut_ptr(), value.len(), unknown.as_mut_ptr(), unknown.len()) })
+}
+
+/// The unsigned vector of a text: one of 0, 1, x and z for each bit, highest first. The text is refused, and nothing is written, at its first
+/// character that is no bit, then by 1 above [`MAX_WIDTH`] bits, then by 5 as in the other constructors.
+///
+/// ```
+/// use vowherunga::{value, ParseError};
+///
+/// let (mut v, mut u) = ([0], [0]);
+/// assert_eq!(value::parse("01xz", &mut v, &mut u).unwrap().width, 4);
+/// assert_eq!((v, u), ([0b0101], [0b0011]));
+/// let error = value::parse("01_x", &mut v, &mut u).unwrap_err();
+/// assert_eq!(error, ParseError::NotABit { found: '_', at: 2 });
+/// assert_eq!(error.to_string(), "'_' at byte 2 is none of 0, 1, x and z");
+/// ```
+pub fn parse(text: &str, value: &mut [u64], unknown: &mut [u64]) -> Result<Header, ParseError> {
+    let bit = |(at, found): (usize, char)| LogicBit::try_from(found).map_err(|_| ParseError::NotABit { found, at });
+    text.char_indices().try_for_each(|place| bit(place).map(drop))?;
+    // Each character is a byte.
+    let width = u32::try_from(text.len()).ok().filter(|width| *width <= MAX_WIDTH);
+    let header = zero(width.ok_or(Refusal::TooWide)?, value, unknown)?;
+    for (i, place) in text.char_indices().rev().enumerate() {
+        let code = u64::from(bit(place)?.to_code());
+        value[i / 64] |= (code & 1) << (i % 64);
+        unknown[i / 64] |= (code >> 1) << (i % 64);
+    }
+    Ok(header)
 }
