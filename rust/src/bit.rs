@@ -6,10 +6,10 @@ use std::str::FromStr;
 /// 0 and 1 are known; x and z are unknown.
 #[derive(Clone, Copy, Debug, PartialEq, Eq, Hash)]
 pub enum LogicBit {
-    Zero,
-    One,
-    X,
-    Z,
+    Zero = 0,
+    One = 1,
+    X = 2,
+    Z = 3,
 }
 
 impl LogicBit {

@@ -1,5 +1,5 @@
-//! The exports of the crates `ffi_store` and `ffi_run`, as C sees them: an array is a pointer, an op its place in the list of ops. A store goes over as its
-//! number of cells and an array of each part of a cell, which are written.
+//! The exports of the crates `ffi_store` and `ffi_run`, as C sees them: an array is a pointer, an op its code. A store goes over as its number of
+//! cells and an array of each part of a cell, which are written.
 use crate::steps::OUTPUT_BYTES;
 use crate::store::MAX_CELLS;
 use crate::Header;

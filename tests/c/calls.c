@@ -1,0 +1,116 @@
+// Calls from C: each struct passes by value, each kind of pointer reaches its memory, and the results are those of document 01.
+#include "vowherunga.h"
+#include <stdio.h>
+#include <string.h>
+
+static int failed = 0;
+
+#define EXPECT(condition) ((condition) ? (void)0 : (void)(failed = 1, printf("line %d: not so: %s\n", __LINE__, #condition)))
+
+static const vowherunga_header none = {0, false, false};
+static const vowherunga_header four = {4, false, false};
+static const vowherunga_header signed_one = {1, true, false};
+
+// Bits and words of 01xz with a z put above it.
+static void planes(void)
+{
+    uint64_t v[2] = {5, 0}, u[2] = {3, 0};
+    EXPECT(vowherunga_set(66, v, 2, u, 2, 65, VOWHERUNGA_BIT_Z) == 0);
+    EXPECT(v[0] == 5 && v[1] == 2 && u[0] == 3 && u[1] == 2);
+    vowherunga_bit_result bit = vowherunga_get(66, v, 2, u, 2, 1);
+    EXPECT(bit.refusal == 0 && bit.bit == VOWHERUNGA_BIT_X);
+    vowherunga_word_result word = vowherunga_extract64(66, v, 2, u, 2, 2, 64);
+    EXPECT(word.refusal == 0 && word.value == 0x8000000000000001u && word.unknown == 0x8000000000000000u);
+    word = vowherunga_extract64(66, v, 2, u, 1, 2, 64);
+    EXPECT(word.refusal == VOWHERUNGA_REFUSAL_PLANE_LENGTH && word.value == 0 && word.unknown == 0);
+    EXPECT(vowherunga_check_vector((vowherunga_header){0, false, true}, v + 2, 0, u + 2, 0) == VOWHERUNGA_REFUSAL_PLANE_LENGTH);
+    EXPECT(vowherunga_check_vector((vowherunga_header){2, true, true}, u, 1, v + 1, 1) == 0);
+}
+
+// 01xz and 1111; a signed 1, whose header comes back; a real.
+static void operators(void)
+{
+    const uint64_t av[1] = {5}, au[1] = {3}, bv[1] = {15}, bu[1] = {0}, one[1] = {1};
+    uint64_t ov[2] = {7, 7}, ou[2] = {9, 9};
+    vowherunga_header_result h = vowherunga_bitwise_and(four, av, 1, au, 1, four, bv, 1, bu, 1, ov, 1, ou, 1);
+    EXPECT(h.refusal == 0 && h.width == 4 && !h.is_signed && !h.is_fill);
+    EXPECT(ov[0] == 4 && ou[0] == 3 && ov[1] == 7 && ou[1] == 9);
+    h = vowherunga_bitwise_and(four, av, 1, au, 1, four, bv, 1, bu, 1, ov, 2, ou, 1);
+    EXPECT(h.refusal == VOWHERUNGA_REFUSAL_OUTPUT_LENGTH && h.width == 0 && ov[0] == 4);
+    h = vowherunga_merge_unknown(signed_one, one, 1, bu, 1, signed_one, one, 1, bu, 1, ov, 1, ou, 1);
+    EXPECT(h.refusal == 0 && h.width == 1 && h.is_signed && !h.is_fill && ov[0] == 1 && ou[0] == 0);
+    h = vowherunga_from_real_wrapped(2.5, 4, ov, 1, ou, 1);
+    EXPECT(h.refusal == 0 && h.width == 4 && ov[0] == 3 && ou[0] == 0);
+
+    vowherunga_bit_result bit = vowherunga_is_equal(false, four, 0.0, bv, 1, bu, 1, true, none, 15.0, ov, 0, ou, 0);
+    EXPECT(bit.refusal == 0 && bit.bit == VOWHERUNGA_BIT_ONE);
+    bit = vowherunga_is_equal(true, none, 14.0, ov, 0, ou, 0, false, four, 15.0, bv, 1, bu, 1);
+    EXPECT(bit.refusal == 0 && bit.bit == VOWHERUNGA_BIT_ZERO);
+    bit = vowherunga_is_equal(false, signed_one, 0.0, one, 1, bu, 1, true, none, -1.0, ov, 0, ou, 0);
+    EXPECT(bit.refusal == 0 && bit.bit == VOWHERUNGA_BIT_ONE);
+    bit = vowherunga_wildcard_eq(four, av, 1, au, 1, four, av, 1, bu, 1);
+    EXPECT(bit.refusal == 0 && bit.bit == VOWHERUNGA_BIT_X);
+
+    vowherunga_word word = vowherunga_and_word((vowherunga_word){5, 3}, (vowherunga_word){15, 0});
+    EXPECT(word.value == 4 && word.unknown == 3);
+    EXPECT(vowherunga_reduce_and_word(4, (vowherunga_word){15, 0}) == VOWHERUNGA_BIT_ONE);
+}
+
+static size_t starts[VOWHERUNGA_MAX_CELLS];
+static uint32_t widths[VOWHERUNGA_MAX_CELLS];
+static bool signs[VOWHERUNGA_MAX_CELLS];
+static bool fills[VOWHERUNGA_MAX_CELLS];
+
+// 1x as a signed cell and as a fill, then the or of both: the fill is stretched to xx, which gives 1x.
+static void store(void)
+{
+    const uint64_t v[1] = {2}, u[1] = {1};
+    uint64_t av[3] = {7, 7, 7}, au[3] = {9, 9, 9}, sv[2] = {7, 7}, su[2] = {9, 9};
+    const vowherunga_header h = {2, true, false}, fill = {2, false, true};
+    vowherunga_cell_result r = vowherunga_add_input(0, starts, widths, signs, fills, h, v, 1, u, 1, av, 3, au, 3);
+    EXPECT(r.refusal == 0 && r.cell == 0);
+    r = vowherunga_add_input(1, starts, widths, signs, fills, fill, v, 1, u, 1, av, 3, au, 3);
+    EXPECT(r.refusal == 0 && r.cell == 1);
+    r = vowherunga_add_step(2, starts, widths, signs, fills, VOWHERUNGA_OP_OR, 0, 1, 0, av, 3, au, 3, sv, 2, su, 2);
+    EXPECT(r.refusal == 0 && r.cell == 2);
+    EXPECT(starts[1] == 1 && starts[2] == 2 && widths[0] == 2 && widths[2] == 2);
+    EXPECT(signs[0] && !signs[1] && !signs[2] && !fills[0] && fills[1] && !fills[2]);
+    EXPECT(av[1] == 2 && au[1] == 1 && av[2] == 2 && au[2] == 1 && sv[0] == 2 && su[0] == 1 && sv[1] == 7 && su[1] == 9);
+    r = vowherunga_add_step(3, starts, widths, signs, fills, VOWHERUNGA_OP_NOT, 0, 0, 0, av, 3, au, 3, sv, 2, su, 2);
+    EXPECT(r.refusal == VOWHERUNGA_REFUSAL_NO_ROOM && r.cell == 0);
+}
+
+static uint8_t out[VOWHERUNGA_OUTPUT_BYTES];
+
+// A run of a text, whose output is compared.
+static vowherunga_run_result run(const char *text, const char *output)
+{
+    uint64_t av[4] = {0}, au[4] = {0}, sv[1] = {0}, su[1] = {0};
+    vowherunga_run_result r =
+        vowherunga_run((const uint8_t *)text, strlen(text), av, 4, au, 4, sv, 1, su, 1, starts, widths, signs, fills, out);
+    EXPECT(r.length == strlen(output) && memcmp(out, output, r.length) == 0);
+    return r;
+}
+
+// The whole case of document 01, a step that names no cell, and a text that is no list.
+static void runs(void)
+{
+    const char *whole = "inputs=2\nsteps=2\nwidth=2\nkind=u\nbits=1x\nwidth=2\nkind=u\nbits=01\n"
+                        "op=and\na=0\nb=1\nc=0\nop=ror\na=2\nb=0\nc=0\n";
+    vowherunga_run_result r = run(whole, "cell=2\nbits=0x\ncell=3\nbits=x\ndone=2\n");
+    EXPECT(r.count == 4 && starts[3] == 3 && widths[2] == 2 && widths[3] == 1);
+    r = run("inputs=1\nsteps=2\nwidth=1\nkind=s\nbits=z\nop=not\na=0\nb=0\nc=0\nop=not\na=2\nb=0\nc=0\n",
+            "cell=1\nbits=x\nrefused=11\nstep=2\n");
+    EXPECT(r.count == 2 && signs[0] && signs[1]);
+    r = run("inputs=1\n", "refused=6\nstep=0\n");
+    EXPECT(r.count == 0 && signs[0] && signs[1]);
+}
+
+int main(void)
+{
+    planes();
+    operators();
+    store();
+    runs();
+    return failed;
+}

@@ -1,0 +1,95 @@
+# include/vowherunga.h is what the static libraries export. A C program that calls them by it gets the right answers; the header, the binding's
+# declarations and the crates' exports have the same functions, parameters and structs; the archives export these functions and no others; the
+# header's numbers are the binding's.
+set -u
+export LC_ALL=C
+header=$ROOT/include/vowherunga.h
+failed=0
+
+# same ONE OTHER: two lists have the same lines
+same() {
+    sort "$1" >sorted && sort "$2" | diff sorted - >difference && return
+    printf '%s and %s differ:\n' "$1" "$2" && cat difference && failed=1
+}
+
+# ---- calls
+set --
+for library in ffi ffi_answers ffi_words ffi_store ffi_run; do set -- "$@" "$ROOT/target/staticlib/lib$library.a"; done
+gcc -std=c11 -Wall -Wextra -Werror -pedantic -I "$ROOT/include" "$ROOT/tests/c/calls.c" "$@" -o calls && ./calls || failed=1
+if command -v g++ >compiler; then
+    g++ -std=c++11 -Wall -Wextra -Werror -pedantic -fsyntax-only -x c++ "$header" || failed=1
+fi
+
+# ---- what each declares
+
+# flat: the text without comments, on one line, without blanks in front of brackets and inside them
+flat() { sed 's,//.*,,' | tr -s ' \n' ' ' | sed 's/ *\([({]\) */\1/g; s/,* *\([)}]\)/\1/g'; }
+# in_c: each function and each struct of flat Rust or Rattle as a line of C. A slice is a pointer and a length; `alike!` gives one list of
+# parameters to several names.
+in_c() {
+    grep -aoE '(fn |alike!\{\w+: )[^(]*\([^)]*\) -> \w+|#\[repr\(C\)\] [^{]*\{[^}]*\}' | sed -E '
+        s/(\w+): &\[(\w+)\]/\1: *const \2, \1_len: usize/g
+        s/(\w+): &mut \[(\w+)\]/\1: *mut \2, \1_len: usize/g
+        s/(\w+): (\*|&)mut \[(\w+); (\w+)\]/\3 \1[\4]/g
+        s/(\w+): \*const (\w+)/const \2 *\1/g
+        s/(\w+): \*mut (\w+)/\2 *\1/g
+        s/(\w+): (\w+)/\2 \1/g
+        s/\b([A-Z][a-z]+)([A-Z][a-z]+)\b/vowherunga_\L\1_\2/g
+        s/\b(Header|Word)\b/vowherunga_\L\1/g
+        s/\bu(8|32|64)\b/uint\1_t/g; s/\busize\b/size_t/g; s/\bf64\b/double/g
+        s/.*struct (\w+)\{(.*)\}/typedef struct{\2;} \1;/
+        /^typedef/s/pub //g; /^typedef/s/,/;/g' | awk '
+        /^typedef/ { print; next }
+        {
+            names = parameters = $0
+            sub(/\(.*/, "", names)
+            sub(/^[^(]*/, "", parameters)
+            answer = parameters
+            sub(/.* -> /, "", answer)
+            sub(/ -> .*/, "", parameters)
+            while (match(names, /vowherunga_[a-z0-9_]+/)) {
+                print answer " " substr(names, RSTART, RLENGTH) parameters ";"
+                names = substr(names, RSTART + RLENGTH)
+            }
+        }'
+}
+flat <"$header" >flat_header
+find "$ROOT/rust/src" -name '*.rs' -exec cat {} + | flat >flat_binding
+find "$ROOT"/crates/*/src -name '*.rt' -exec cat {} + | flat >flat_crates
+
+# ---- numbers: the constants, and the codes of bits, refusals and ops
+grep -oE 'VOWHERUNGA_[A-Z0-9_]+ = [0-9]+' flat_header >header_numbers
+{
+    grep -oE 'pub const [A-Z0-9_]+: u[a-z0-9]+ = [0-9_]+' flat_binding |
+        sed -E 's/pub const (\w+): \w+ = /VOWHERUNGA_\1 = /; s/([0-9])_/\1/g'
+    grep -oE 'pub enum (LogicBit|Refusal|Op)\{[^}]*\}' flat_binding | sed 's/pub enum //; s/LogicBit/Bit/' | awk -F'[{},]' '{
+        for (i = 2; i < NF; i++) {
+            name = $1 $i
+            gsub(/ *= */, "=", name)
+            gsub(/ /, "", name)
+            gsub(/[A-Z]/, "_&", name)
+            sub(/=/, " = ", name)
+            print "VOWHERUNGA" toupper(name)
+        }
+    }'
+} >binding_numbers
+same header_numbers binding_numbers
+sed -n 's/^\(VOWHERUNGA_\)\(MAX_CELLS\|OUTPUT_BYTES\) = \(.*\)/s,\\b\\(\1\\)*\2\\b,\3,g/p' header_numbers >lengths
+
+# ---- functions and structs
+grep -oE '\w+ vowherunga_\w+\([^)]*\);|typedef struct\{[^}]*\} \w+;' flat_header | sed -f lengths >header
+in_c <flat_binding | sed -f lengths >binding
+in_c <flat_crates >crates
+same header binding
+same header crates
+
+# ---- names in the archives
+nm -g --defined-only "$@" | sed -n 's/^[0-9a-f]* T //p' >archives
+sed -n 's/.* \(vowherunga_[a-z0-9_]*\)(.*/\1/p' header >names
+same names archives
+
+# nothing was passed over
+for list in 'names 45' 'header 52' 'header_numbers 35'; do
+    [ "$(wc -l <"${list% *}")" -ge "${list#* }" ] || { printf 'there are fewer %s\n' "$list" && failed=1; }
+done
+[ "$failed" -eq 0 ]
