@@ -1,9 +1,10 @@
-// The ops of a step list: how each is worked out, how many cells it names, which arms it refuses, and the header of its result.
+// The ops of a step list: how each is worked out, how many cells it names, which arms it refuses, the header of its result, and its code.
 use compare_words::Comparison;
 use lanes::Bitwise;
 use value::Header;
 ghost use mathlib.Core.Path.{_≡_};
 ghost use Rattle.ops.specs.Ops.{familyOf, operands, uses, armsRefused, opHeader};
+ghost use Rattle.ops.specs.Names.{opOf};
 
 pub mod unchecked;
 
@@ -26,6 +27,12 @@ pub enum Op {
     LogicOr,
     Select,
     Insert,
+}
+
+// The op that has a code, or none.
+pub enum OpAnswer {
+    Op(Op),
+    NoOp,
 }
 
 // One step of a list: its op, and three numbers, of which the first are the cells that the op names; insert takes c as its position.
@@ -134,5 +141,35 @@ pub fn result_header(op: Op, a: Header, b: Header, c: Header) -> Header
             is_fill: false,
         },
         Family::Insert => a,
+    }
+}
+
+// The op that has a code in the exports. The places of the table are the codes; the entry of a retired code is `NoOp`.
+pub fn op_of(code: u8) -> OpAnswer
+    ensures { λ r. ⌜ r ≡ opOf code ⌝ }
+{
+    let table = [
+        OpAnswer::Op(Op::And),
+        OpAnswer::Op(Op::Or),
+        OpAnswer::Op(Op::Xor),
+        OpAnswer::Op(Op::Not),
+        OpAnswer::Op(Op::Merge),
+        OpAnswer::Op(Op::ReduceAnd),
+        OpAnswer::Op(Op::ReduceOr),
+        OpAnswer::Op(Op::ReduceXor),
+        OpAnswer::Op(Op::Equal),
+        OpAnswer::Op(Op::CaseEqual),
+        OpAnswer::Op(Op::CasezEqual),
+        OpAnswer::Op(Op::CasexEqual),
+        OpAnswer::Op(Op::WildcardEqual),
+        OpAnswer::Op(Op::LogicAnd),
+        OpAnswer::Op(Op::LogicOr),
+        OpAnswer::Op(Op::Select),
+        OpAnswer::Op(Op::Insert),
+    ];
+    if code < 17 {
+        table[code as usize]
+    } else {
+        OpAnswer::NoOp
     }
 }
