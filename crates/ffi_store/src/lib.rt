@@ -1,17 +1,19 @@
 // The calls of the cell store for C and Rust, as numbers, slices and arrays: a store crosses as its number of cells and four arrays of 320
 // places. Each export asks nothing of its caller, and a refusal changes nothing.
+use ops::OpAnswer;
 use ops::Step;
+use ops::op_of;
 use store_abi::CellResult;
 use store_abi::load;
-use store_abi::op_of;
 use store_abi::settle;
 use value::Header;
 ghost use mathlib.Core.Path.{_≡_};
 ghost use Rattle.words.specs.Planes.{lentBy};
+ghost use Rattle.ops.specs.Names.{opOf};
 ghost use Rattle.store.specs.Store.{stateBy, addInput};
-ghost use Rattle.store.specs.Step.{memoryBy, addStep};
-ghost use Rattle.store_abi.specs.Fields.{fieldsBy, storeOf, opOf, settled, crossed};
-ghost use Rattle.ffi_store.specs.Crossing.{crossedInput, crossedStep};
+ghost use Rattle.store.specs.Step.{memoryBy};
+ghost use Rattle.store_abi.specs.Fields.{fieldsBy, storeOf, settled, crossed};
+ghost use Rattle.ffi_store.specs.Crossing.{crossedInput, addStepOf, crossedStep};
 
 // `Store::add_input` on the store of `count` cells that the four arrays say; where it is done, the store has one cell more
 #[no_mangle]
@@ -31,7 +33,8 @@ pub extern "C" fn vowherunga_add_input(
         (lentBy («arena_value» .exit) («arena_unknown» .exit))
         ≡ crossedInput (fieldsBy (starts .entry) (widths .entry) (signs .entry) (fills .entry))
         (addInput
-        (stateBy (storeOf count (fieldsBy (starts .entry) (widths .entry) (signs .entry) (fills .entry))) («arena_value» .entry) («arena_unknown» .entry))
+        (stateBy (storeOf count (fieldsBy (starts .entry) (widths .entry) (signs .entry) (fills .entry)))
+        («arena_value» .entry) («arena_unknown» .entry))
         h (lentBy (value .entry) (unknown .entry))) ⌝ }
 {
     let s = load(count, starts, widths, signs, fills);
@@ -39,7 +42,8 @@ pub extern "C" fn vowherunga_add_input(
     settle(r, starts, widths, signs, fills)
 }
 
-// `Store::add_step` on that store, the op by its number modulo 17; where it is done, the store has one cell more
+// `Store::add_step` on that store, the op by its code; where it is done, the store has one cell more. A code that is no op's is answered by
+// 255 and changes nothing.
 #[no_mangle]
 pub extern "C" fn vowherunga_add_step(
     count: usize,
@@ -59,24 +63,31 @@ pub extern "C" fn vowherunga_add_step(
     ensures { λ r. ⌜ crossed (settled r (fieldsBy (starts .exit) (widths .exit) (signs .exit) (fills .exit)))
         (lentBy («arena_value» .exit) («arena_unknown» .exit), lentBy («scratch_value» .exit) («scratch_unknown» .exit))
         ≡ crossedStep (fieldsBy (starts .entry) (widths .entry) (signs .entry) (fills .entry))
-        (addStep
+        (addStepOf (opOf op) a b c
         (memoryBy (storeOf count (fieldsBy (starts .entry) (widths .entry) (signs .entry) (fills .entry)))
-        («arena_value» .entry) («arena_unknown» .entry) («scratch_value» .entry) («scratch_unknown» .entry))
-        (record { op = opOf op; a = a; b = b; c = c })) ⌝ }
+        («arena_value» .entry) («arena_unknown» .entry) («scratch_value» .entry) («scratch_unknown» .entry))) ⌝ }
 {
-    let s = load(count, starts, widths, signs, fills);
-    let step = Step {
-        op: op_of(op),
-        a: a,
-        b: b,
-        c: c,
-    };
-    let r = s.add_step(
-        step,
-        arena_value,
-        arena_unknown,
-        scratch_value,
-        scratch_unknown,
-    );
-    settle(r, starts, widths, signs, fills)
+    match op_of(op) {
+        OpAnswer::NoOp => CellResult {
+            refusal: 255,
+            cell: 0,
+        },
+        OpAnswer::Op(o) => {
+            let s = load(count, starts, widths, signs, fills);
+            let step = Step {
+                op: o,
+                a: a,
+                b: b,
+                c: c,
+            };
+            let r = s.add_step(
+                step,
+                arena_value,
+                arena_unknown,
+                scratch_value,
+                scratch_unknown,
+            );
+            settle(r, starts, widths, signs, fills)
+        }
+    }
 }

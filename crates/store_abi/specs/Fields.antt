@@ -1,18 +1,15 @@
 -- A store of cells as it crosses to C: document 01, "Cell store", has at most 320 cells, each a start word and a header; they cross as four lists,
--- one for the start words and one for each part of a header. Also an op by its number, and an answer as numbers.
+-- one for the start words and one for each part of a header. Also an answer as numbers.
 use mathlib.Core.Bool.{Bool, false}
 use mathlib.Core.List.{List, map}
-use Prim.Native.Nat.{ℕ, _%_}
+use Prim.Native.Nat.{ℕ}
 use denote.Ref.{RefT, now}
 use lib.ListN.{getD}
 use Rattle.refusal.specs.Outcome.{Answer}
 use Rattle.refusal.specs.Outcome.Answer.{given, refused}
 use Rattle.words.specs.Vector.{tabulate}
-use Rattle.ops.specs.declared.Op.{Op}
-use Rattle.ops.specs.declared.Op.the-variants.{And}
 use Rattle.cells.specs.declared.Cell.{Cell}
 use Rattle.store.specs.declared.Store.{Store}
-use Rattle.ops.specs.Names.{allOps}
 use Rattle.store_abi.specs.declared.CellResult.{CellResult}
 use Rattle.store_abi.specs.declared.Fields.{Fields}
 
@@ -42,11 +39,11 @@ fieldsOf s =
     (map (λ (c : Cell). c .header .«is_signed») (s .cells))
     (map (λ (c : Cell). c .header .«is_fill») (s .cells))
 
--- the ops in the order of a step list's names, from 0; a number above 16 is taken modulo 17
-abbrev pub opOf : ℕ → Op
-opOf n = getD allOps (n % 17) And
-
 -- ---- what a call on a store gives
+
+-- what a call answers whose code is no op's: it is no refusal's number
+abbrev pub noSuchOp : ℕ
+noSuchOp = 255
 
 -- a result in numbers, and the fields as the call leaves them
 pub record Settled (R : Type 0) : Type 0 where

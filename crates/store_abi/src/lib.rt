@@ -1,14 +1,13 @@
 // A store of cells as it crosses to C and Rust: the number of its cells, and four arrays with the start word, the width and the two marks
-// of each of its 320 places. Also an op by its number, and the answer of a call on the store as numbers.
+// of each of its 320 places. Also the answer of a call on the store as numbers.
 use cells::Cell;
-use ops::Op;
 use store::CellAnswer;
 use store::Store;
 use store::Stored;
 use value::Header;
 ghost use mathlib.Core.Path.{_≡_};
 ghost use Rattle.store.specs.Store.{cellAnswer};
-ghost use Rattle.store_abi.specs.Fields.{fieldsBy, storeOf, fieldsOf, opOf, settled, settledBy};
+ghost use Rattle.store_abi.specs.Fields.{fieldsBy, storeOf, fieldsOf, settled, settledBy};
 
 // 0 where the call was done, and then the number of the new cell.
 #[repr(C)]
@@ -122,11 +121,4 @@ pub fn settle(
             }
         }
     }
-}
-
-// The op of a number, taken modulo 17.
-pub fn op_of(code: u8) -> Op
-    ensures { λ r. ⌜ r ≡ opOf code ⌝ }
-{
-    ops::unchecked::op_at((code % 17) as usize)
 }
