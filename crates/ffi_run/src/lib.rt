@@ -8,15 +8,25 @@ ghost use Rattle.words.specs.Planes.{lentBy};
 ghost use Rattle.lines.specs.Buffer.{buffer};
 ghost use Rattle.steps.specs.Run.{endingOf, runText, finalOf};
 ghost use Rattle.store_abi.specs.Fields.{fieldsBy, settled, crossed};
-ghost use Rattle.ffi_run.specs.Crossing.{refusedWhole, savedFields, crossedRun};
+ghost use Rattle.ffi_run.specs.Crossing.{endNumber, endStep, savedFields, crossedRun};
 
-// Whether a run was refused before its first input: by 6.
-fn refused_whole(e: RunEnding) -> bool
-    ensures { λ r. ⌜ r ≡ refusedWhole (endingOf e) ⌝ }
+// 0 where every step was run, or the refusal's number.
+fn end_number(e: RunEnding) -> u8
+    ensures { λ r. ⌜ r ≡ endNumber (endingOf e) ⌝ }
 {
     match e {
-        RunEnding::Done(_) => false,
-        RunEnding::Refused(r, _) => refusal::number(r) == 6,
+        RunEnding::Done(_) => 0,
+        RunEnding::Refused(r, _) => refusal::number(r),
+    }
+}
+
+// How many steps were run, or the step that was refused.
+fn end_step(e: RunEnding) -> u32
+    ensures { λ r. ⌜ r ≡ endStep (endingOf e) ⌝ }
+{
+    match e {
+        RunEnding::Done(k) => k,
+        RunEnding::Refused(_, k) => k,
     }
 }
 
@@ -32,17 +42,20 @@ fn save_run(
         ≡ savedFields (endingOf (r .ending)) (r .store) (fieldsBy (starts .entry) (widths .entry) (signs .entry) (fills .entry)) ⌝ }
 {
     let e = r.ending;
-    if refused_whole(e) {
+    if end_number(e) == 6 {
         return;
     }
     save(r.store, starts, widths, signs, fills);
 }
 
-// The cells in the store after a run, and the bytes that it wrote at the front of the buffer.
+// The cells in the store after a run, the bytes that it wrote at the front of the buffer, and how it ended: `refusal` is 0 where every step
+// was run, and then `step` is how many; else it is the refusal's number, and `step` its step, 0 for the text or an input.
 #[repr(C)]
 pub struct RunResult {
     pub count: usize,
     pub length: usize,
+    pub refusal: u8,
+    pub step: u32,
 }
 
 // `steps::run` from an empty store; the four arrays get the store that it leaves, unless the text is no step list
@@ -59,8 +72,11 @@ pub extern "C" fn vowherunga_run(
     fills: &mut [bool; 320],
     out: &mut [u8; 1052436],
 ) -> RunResult
-    ensures { λ r. ⌜ crossed (settled r (fieldsBy (starts .exit) (widths .exit) (signs .exit) (fills .exit)))
-        (lentBy («arena_value» .exit) («arena_unknown» .exit), lentBy («scratch_value» .exit) («scratch_unknown» .exit), now (out .exit))
+    ensures { λ r. ⌜ crossed (settled r (fieldsBy (starts .exit) (widths .exit) (signs .exit) (fills .exit))) (
+      lentBy («arena_value» .exit) («arena_unknown» .exit),
+      lentBy («scratch_value» .exit) («scratch_unknown» .exit),
+      now (out .exit),
+    )
         ≡ crossedRun (fieldsBy (starts .entry) (widths .entry) (signs .entry) (fills .entry))
         (finalOf
         (runText
@@ -79,8 +95,11 @@ pub extern "C" fn vowherunga_run(
     );
     save_run(r, starts, widths, signs, fills);
     let s = r.store;
+    let ending = r.ending;
     RunResult {
         count: s.count,
         length: r.length,
+        refusal: end_number(ending),
+        step: end_step(ending),
     }
 }
