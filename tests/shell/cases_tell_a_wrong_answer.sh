@@ -1,11 +1,11 @@
-# Each program that replays tables writes the lines that are wrong, in either table, and counts the others. A wrong line is a right one with
-# one part spoiled, so that a program that passes over this part, or is content if another part is right, is found out.
+# The program `worked_cases` writes the lines of its tables that are wrong, and counts the others. A wrong line is a right one with one part
+# spoiled, so that a program that passes over this part, or is content if another part is right, is found out.
 set -u
 export LC_ALL=C
 
-# spoil PATTERN EDIT..: the first line of the tables with that pattern, once with each edit of sed
+# spoil PATTERN EDIT..: the first line of the two tables with that pattern, once with each edit of sed
 spoil() {
-    line=$(sed -n "/$1/{p;q;}" worked answers)
+    line=$(sed -n "/$1/{p;q;}" "worked/$kind" "answers/$kind")
     [ -n "$line" ] || { printf 'no line has %s\n' "$1" && exit 1; }
     shift
     for edit; do
@@ -29,7 +29,7 @@ above() { spoil "^!. = $1 1048577:16385:.*:" "s/.*:/&1$(printf %04160d 0)/"; }
 # a bit behind the planes of an answer of 3 or 4 bits, in a word that they do not have
 behind() { spoil "^u$1 = $2" "s/^u[^ ]*/u${#1}:2:2:1$(printf %0$((64 - ${#1}))d 0)$1/"; }
 
-bit_cases() {
+bits() {
     spoil '^0 = get' 's/^0/1/' 's/^0/x/' 's/^0/10/' 's/^/!/'
     spoil '^z = get' 's/^z/x/' 's/^z/1/'
     spoil '^xz10 = extract64' 's/^x/z/' 's/^x/0/' 's/0 = /1 = /' 's/0 = /x = /'
@@ -49,7 +49,7 @@ bit_cases() {
     spoil '^!1 = get 1048577:1:2:' 's/:1:2:/:16386:2:/' 's/:1:2:/:1:16386:/'
 }
 
-constructor_cases() {
+constructors() {
     header new
     header zero
     header from_u64
@@ -68,7 +68,7 @@ constructor_cases() {
     spoil '^!1 = from_real_wrapped 1048577:16385:16385:' 's/16385:/16386:/' 's/16385:/16386:/2'
 }
 
-vector_cases() {
+vectors() {
     for call in bitwise_and bitwise_or bitwise_xor merge_unknown bitwise_not; do header $call; done
     spoil '^s10 = merge_unknown' 's/^s/u/' 's/^s/g/' 's/^s1/s0/' 's/^s1/sz/'
     spoil '^s1x0 = bitwise_not' 's/^s/u/' 's/^s/g/' 's/x/z/' 's/x/0/'
@@ -85,7 +85,7 @@ vector_cases() {
     spoil '^!5 = bitwise_and 000 000 3:2:1:' 's/:2:1:/:66:1:/' 's/:2:1:/:1:66:/'
 }
 
-answer_cases() {
+answer_bits() {
     for call in reduce_and reduce_or reduce_xor is_nonzero logic_and logic_or is_equal case_eq casez_eq casex_eq wildcard_eq; do
         spoil "^0 = $call" 's/^0/1/' 's/^0/x/'
         spoil "^1 = $call" 's/^1/0/' 's/^1/z/'
@@ -95,22 +95,25 @@ answer_cases() {
     refusal reduce_and
     refusal logic_and
     refusal case_eq
-    spoil '^1 = is_nonzero' 's/is_nonzero/get/'
+    spoil '^1 = is_nonzero x1' 's/is_nonzero/reduce_and/'
     spoil '^1 = wildcard_eq' 's/wildcard_eq/wildcard/'
     spoil '^!1 = reduce_and 1048577:16385:16385:' 's/16385:/16386:/' 's/16385:/16386:/2'
     spoil '^!3 = casez_eq 000 3:1:1:' 's/!3\(.*\):1:1:/!2\1:66:1:/' 's/!3\(.*\):1:1:/!2\1:1:66:/'
 }
 
-for program in bit_cases constructor_cases vector_cases answer_cases; do
-    data=$ROOT/crates/$program/data
-    cp "$data"/* . && : >spoiled || exit 1
-    $program
-    for table in worked answers; do
-        cp "$data"/* . && cat spoiled >>$table || exit 1
-        "$BIN/$program" >said || exit 1
+# work: the program on the tables that stand here
+work() { "$BIN/worked_cases" >said || exit 1; }
+
+data=$ROOT/crates/worked_cases/data
+for kind in bits constructors vectors answer_bits; do
+    cp -R "$data"/* . && : >spoiled || exit 1
+    $kind
+    for table in worked/$kind answers/$kind; do
+        cp -R "$data"/* . && cat spoiled >>"$table" && work || exit 1
         sed -n 's/^differs: //p' said | diff spoiled - || exit 1
         grep -qx "$table: $(wc -l <"$data/$table") agree" said || exit 1
     done
     # where no worked case agrees, nothing is told of the answers
-    cp spoiled worked && "$BIN/$program" | tail -n 1 | grep -qx 'worked: 0 agree' || exit 1
+    cp -R "$data"/* . && cp spoiled "worked/$kind" && work || exit 1
+    grep -qx "worked/$kind: 0 agree" said && ! grep -q "^answers/$kind:" said || exit 1
 done

@@ -1,12 +1,12 @@
-//! Writes the table of the reference's answers for the program that is named to standard output.
+//! Writes the table of the reference's answers that is named to standard output.
 use std::env;
 use std::io::{self, Write};
-use vowherunga::reference::answers::{tables, PROGRAMS};
+use vowherunga::reference::answers::{tables, TABLES};
 
 fn main() -> io::Result<()> {
     let name = env::args().nth(1).unwrap_or_default();
-    match PROGRAMS.iter().position(|p| *p == name) {
+    match TABLES.iter().position(|t| *t == name) {
         Some(i) => io::stdout().write_all(tables()[i].as_bytes()),
-        None => Err(io::Error::other(format!("name one of {}", PROGRAMS.join(", ")))),
+        None => Err(io::Error::other(format!("name one of {}", TABLES.join(", ")))),
     }
 }

@@ -1,4 +1,4 @@
-//! The tables of the reference's answers that four programs replay without Rust; their lines are told in crates/replay/src/lib.rt.
+//! The tables of the reference's answers that crates/worked_cases replays without Rust; their lines are told in crates/replay/src/lib.rt.
 mod bits;
 mod operators;
 mod text;
@@ -28,10 +28,10 @@ fn stood(rng: &mut Rng, result: &Vector) -> Vector {
     }
 }
 
-/// The programs that replay a table each.
-pub const PROGRAMS: [&str; 4] = ["bit_cases", "constructor_cases", "vector_cases", "answer_cases"];
+/// The tables by their names in crates/worked_cases/data/answers.
+pub const TABLES: [&str; 4] = ["bits", "constructors", "vectors", "answer_bits"];
 
-/// The table of each program: fewer than 65,536 bytes, which is what a program reads.
+/// Each table: fewer than 65,536 bytes, which is what the program reads.
 pub fn tables() -> [String; 4] {
     let mut rng = Rng::new(0x616e_7377_6572);
     let [mut bits, mut made, mut vectors, mut answers] = [const { Vec::new() }; 4];

@@ -4,8 +4,8 @@ use lib.ListN.{length}
 use mathlib.Core.Logic.{⊎-elim}
 use native.Mathlib.Omega.{arith}
 use borrow.Author.Needs.{needs}
-use Rattle.answer_cases.proofs.count.Statement.{statement}
-use Rattle.answer_cases.proofs.count.Tie as tie
+use Rattle.worked_cases.proofs.count.Statement.{statement}
+use Rattle.worked_cases.proofs.count.Tie as tie
 
 abbrev Inv-loop : tie.InvT-loop
 Inv-loop s show agreed₀ at₀ agreed at = (agreed ≤ at) × (at ≤ length s)
