@@ -68,6 +68,9 @@ enum {
     VOWHERUNGA_OP_INSERT = 16          // ins
 };
 
+// What vowherunga_add_step answers in place of a refusal to a code that is no op's; nothing changes then.
+enum { VOWHERUNGA_NO_SUCH_OP = 255 };
+
 // A vector's width and marks.
 typedef struct {
     uint32_t width;
@@ -81,7 +84,7 @@ typedef struct {
     uint64_t unknown;
 } vowherunga_word;
 
-// In each result below `refusal` is 0 where the call was done, and the other fields are 0 where it was not.
+// In each result below `refusal` is 0 where the call was done; but for a run's, the other fields are 0 where it was not.
 
 // The code of a bit or of a truth.
 typedef struct {
@@ -110,10 +113,13 @@ typedef struct {
     size_t cell;
 } vowherunga_cell_result;
 
-// How many cells the store has after a run, and how many bytes were written.
+// How many cells the store has after a run, how many bytes were written, and how it ended: `step` is the number of steps done where `refusal` is
+// 0, else the refused step, from 1, or 0 for the text or an input.
 typedef struct {
     size_t count;
     size_t length;
+    uint8_t refusal;
+    uint32_t step;
 } vowherunga_run_result;
 
 // ---- Bits and words of planes: refused by 1, 2, 3, in this order.
@@ -296,7 +302,7 @@ vowherunga_cell_result vowherunga_add_input(size_t count, size_t starts[VOWHERUN
                                             size_t arena_unknown_len);
 
 // Adds the result of a step, an op by its code on the cells a, b and c, as the next cell, by way of the scratch planes. Refused by 14, 12, 11,
-// 7, then 13.
+// 7, then 13; 255 for a code that is no op's.
 vowherunga_cell_result vowherunga_add_step(size_t count, size_t starts[VOWHERUNGA_MAX_CELLS], uint32_t widths[VOWHERUNGA_MAX_CELLS],
                                            bool signs[VOWHERUNGA_MAX_CELLS], bool fills[VOWHERUNGA_MAX_CELLS], uint8_t op, uint32_t a,
                                            uint32_t b, uint32_t c, uint64_t *arena_value, size_t arena_value_len, uint64_t *arena_unknown,

@@ -3,8 +3,8 @@
 //! A vector is a width and two planes of 64-bit words, value and unknown. Bit i is bit i mod 64 of word i div 64 of each plane: 0 is stored
 //! as (0,0), 1 as (1,0), x as (0,1) and z as (1,1); bits at or above the width are 0. A plane has exactly [`planes::word_count`] words.
 //! The caller keeps the planes and lends them to each call; nothing is allocated, and nothing is asked of them: whatever is handed over,
-//! a call gives its result, or one [`Refusal`] and then no lent word has changed. Only the run of a whole list tells its refusal by its output
-//! ([`steps::run`]); refused at an input or a step, it keeps what its earlier inputs and steps filled.
+//! a call gives its result, or one [`Refusal`] and then no lent word has changed. Only the run of a whole list ([`steps::run`]), where it is
+//! refused at an input or a step, keeps what its earlier inputs and steps filled.
 //!
 //! ```
 //! use vowherunga::{bitwise, planes, reduce, value, Header, LogicBit, Narrow, Operand, Refusal, Truth, Word};

@@ -13,6 +13,7 @@
 //!
 //! let ran = run(list.as_bytes(), &mut value, &mut unknown, &mut scratch_value, &mut scratch_unknown, &mut out);
 //! assert_eq!(ran.output, "cell=2\nbits=0x\ncell=3\nbits=x\ndone=2\n");
+//! assert_eq!(ran.ending, Ok(2));
 //!
 //! // The cells are there as well: the last has one bit, which is x.
 //! let last = ran.store.cell(3).unwrap();
@@ -20,7 +21,7 @@
 //! ```
 use crate::raw::store as raw;
 use crate::store::Store;
-use crate::ParseError;
+use crate::{ParseError, Refusal};
 use std::fmt;
 use std::str::FromStr;
 
@@ -149,17 +150,19 @@ pub struct Step {
 /// The length of the longest output: 256 cells of 4,096 bits, and a refusal.
 pub const OUTPUT_BYTES: usize = 1_052_436;
 
-/// The store when the run ends, and its output.
+/// The store when the run ends, its output, and how it ended.
 #[derive(Clone, Debug, PartialEq, Eq)]
 pub struct Run<'a> {
     pub store: Store,
     pub output: &'a str,
+    /// How many steps were done; or a refusal and the step that it is of: from 1, or 0 for the text or an input.
+    pub ending: Result<u32, (Refusal, u32)>,
 }
 
 /// Runs the list of a text from an empty store, in lent arenas and scratch planes of any contents. The output has the lines `cell=` and `bits=`
-/// of each step that was run, and then `done=` with their number, or `refused=` with the refusal's number and `step=`: from 1, or 0 for the text
-/// or an input. It stands at the front of `out`. The text is read whole before any step. A run that is refused at an input or a step leaves
-/// arenas, scratch and store as those before it have filled them; a text that is no list changes none of them.
+/// of each step that was run, and then the ending: `done=` with their number, or `refused=` with the refusal's number and `step=`. It stands
+/// at the front of `out`. The text is read whole before any step. A run that is refused at an input or a step leaves arenas, scratch and store
+/// as those before it have filled them; a text that is no list changes none of them.
 pub fn run<'a>(
     text: &[u8],
     arena_value: &mut [u64],
@@ -191,5 +194,6 @@ pub fn run<'a>(
     };
     store.count = r.count;
     let output = std::str::from_utf8(&out[..r.length]).unwrap_or_else(|e| unreachable!("the output is ASCII: {e}"));
-    Run { store, output }
+    let ending = Refusal::of_call(r.refusal).map(|()| r.step).map_err(|refusal| (refusal, r.step));
+    Run { store, output, ending }
 }

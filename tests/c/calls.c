@@ -78,6 +78,8 @@ static void store(void)
     EXPECT(av[1] == 2 && au[1] == 1 && av[2] == 2 && au[2] == 1 && sv[0] == 2 && su[0] == 1 && sv[1] == 7 && su[1] == 9);
     r = vowherunga_add_step(3, starts, widths, signs, fills, VOWHERUNGA_OP_NOT, 0, 0, 0, av, 3, au, 3, sv, 2, su, 2);
     EXPECT(r.refusal == VOWHERUNGA_REFUSAL_NO_ROOM && r.cell == 0);
+    r = vowherunga_add_step(2, starts, widths, signs, fills, VOWHERUNGA_OP_INSERT + 1, 0, 0, 0, av, 3, au, 3, sv, 2, su, 2);
+    EXPECT(r.refusal == VOWHERUNGA_NO_SUCH_OP && av[2] == 2 && au[2] == 1 && starts[2] == 2);
 }
 
 static uint8_t out[VOWHERUNGA_OUTPUT_BYTES];
@@ -98,12 +100,13 @@ static void runs(void)
     const char *whole = "inputs=2\nsteps=2\nwidth=2\nkind=u\nbits=1x\nwidth=2\nkind=u\nbits=01\n"
                         "op=and\na=0\nb=1\nc=0\nop=ror\na=2\nb=0\nc=0\n";
     vowherunga_run_result r = run(whole, "cell=2\nbits=0x\ncell=3\nbits=x\ndone=2\n");
-    EXPECT(r.count == 4 && starts[3] == 3 && widths[2] == 2 && widths[3] == 1);
+    EXPECT(r.count == 4 && r.refusal == 0 && r.step == 2);
+    EXPECT(starts[3] == 3 && widths[2] == 2 && widths[3] == 1);
     r = run("inputs=1\nsteps=2\nwidth=1\nkind=s\nbits=z\nop=not\na=0\nb=0\nc=0\nop=not\na=2\nb=0\nc=0\n",
             "cell=1\nbits=x\nrefused=11\nstep=2\n");
-    EXPECT(r.count == 2 && signs[0] && signs[1]);
+    EXPECT(r.count == 2 && r.refusal == VOWHERUNGA_REFUSAL_NO_SUCH_CELL && r.step == 2 && signs[0] && signs[1]);
     r = run("inputs=1\n", "refused=6\nstep=0\n");
-    EXPECT(r.count == 0 && signs[0] && signs[1]);
+    EXPECT(r.count == 0 && r.refusal == VOWHERUNGA_REFUSAL_BAD_FORMAT && r.step == 0 && signs[0] && signs[1]);
 }
 
 int main(void)

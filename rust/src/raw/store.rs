@@ -1,5 +1,5 @@
-//! The exports of the crates `ffi_store` and `ffi_run`, as C sees them: an array is a pointer, an op its code. A store goes over as its number of
-//! cells and an array of each part of a cell, which are written.
+//! The exports of the crates `ffi_store` and `ffi_run`, as C sees them: an array is a pointer, an op its code. A store goes over as its number
+//! of cells and an array of each part of a cell, which are written.
 use crate::steps::OUTPUT_BYTES;
 use crate::store::MAX_CELLS;
 use crate::Header;
@@ -11,11 +11,17 @@ pub struct CellResult {
     pub cell: usize,
 }
 
-/// How many cells the store has, and how many bytes were written. The arrays are written unless the text is no step list (refusal 6).
+/// The answer of `vowherunga_add_step` to a code that is no op's, which no refusal has for its number. Nothing is changed then.
+pub const NO_SUCH_OP: u8 = 255;
+
+/// How many cells the store has, how many bytes were written, and how the run ended: refusal 0 and the number of steps done, or a refusal and
+/// its step, 0 for the text or an input. The arrays are written unless the text is no step list (refusal 6).
 #[repr(C)]
 pub struct RunResult {
     pub count: usize,
     pub length: usize,
+    pub refusal: u8,
+    pub step: u32,
 }
 
 extern "C" {

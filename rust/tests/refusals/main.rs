@@ -1,4 +1,5 @@
 //! Each refusal that the entries can give, the order in which they come, and that a refused call writes nothing.
+mod arrays;
 #[path = "../lent/mod.rs"]
 mod lent;
 mod operators;

@@ -1,7 +1,9 @@
 //! The calls of the store: each refusal, which one comes first, and that a refused call changes neither the store nor a lent word.
+use crate::arrays::{raw_parts, Arrays};
 use crate::lent::Lent;
 use crate::table::{fills_and_reals, vectors};
 use vowherunga::planes::word_count;
+use vowherunga::raw::store::{vowherunga_add_step, NO_SUCH_OP};
 use vowherunga::steps::{Op, Step};
 use vowherunga::store::{Cell, Store, Stored, MAX_CELLS};
 use vowherunga::{Header, Refusal, MAX_WIDTH};
@@ -288,5 +290,46 @@ fn of_too_few_words() {
         short(1).step(13, Op::Or, [1, 0, 0]);
         short(2).step(0, Op::Or, [1, 0, 0]);
         short(0).input(0, header(65, false, false), &[0, 0], &[0, 0]);
+    }
+}
+
+/// Codes that are no op's, handed to the export itself: 255, which is no refusal's number, and nothing changes, whatever the operands name.
+#[test]
+fn of_codes_of_no_op() {
+    assert_eq!((NO_SUCH_OP, Refusal::from_number(NO_SUCH_OP)), (255, None));
+    for code in (0..=u8::MAX).filter(|code| Op::from_code(*code).is_none()) {
+        for [a, b, c] in [[0, 0, 0], [1, 4, 2], [u32::MAX; 3]] {
+            let state = five_cells();
+            let before = Arrays::new(&state.places);
+            let mut after = before.clone();
+            let (starts, widths, signs, fills) = after.pointers();
+            let mut planes = [&state.arenas, &state.scratch].map(|pair| pair.each_ref().map(|plane| Lent::new(plane)));
+            let [[av, au], [sv, su]] = planes.each_mut().map(|pair| raw_parts(pair.each_mut().map(Lent::plane)));
+            let r = unsafe {
+                vowherunga_add_step(
+                    state.count,
+                    starts,
+                    widths,
+                    signs,
+                    fills,
+                    code,
+                    a,
+                    b,
+                    c,
+                    av.0,
+                    av.1,
+                    au.0,
+                    au.1,
+                    sv.0,
+                    sv.1,
+                    su.0,
+                    su.1,
+                )
+            };
+            assert_eq!(r.refusal, NO_SUCH_OP, "code {code}");
+            let left = planes.map(|pair| pair.map(Lent::left));
+            let same = after == before && left == [state.arenas, state.scratch];
+            assert!(same, "the code {code} changed something");
+        }
     }
 }

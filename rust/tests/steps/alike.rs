@@ -1,7 +1,7 @@
 //! A run on both sides, and the library's alone.
 use crate::lent::Lent;
 use std::collections::BTreeMap;
-use vowherunga::reference::steps::{self, Machine, Memory};
+use vowherunga::reference::steps::{self, Ending, Machine, Memory};
 use vowherunga::steps::{run, OUTPUT_BYTES};
 use vowherunga::store::{Cell, Store, MAX_CELLS};
 
@@ -31,11 +31,24 @@ pub fn lend<A>(memory: &Memory, call: impl FnOnce([&mut [u64]; 4]) -> A) -> (A, 
 
 const STOOD: u8 = 0xee;
 
-/// What the library left of one run.
+/// What the library left of one run, and how it ended.
 pub struct Left {
     pub output: String,
+    pub ending: Ending,
     pub store: Store,
     pub memory: Memory,
+}
+
+/// The ending that the last lines of an output tell.
+fn told(output: &str) -> Option<Ending> {
+    let mut lines = output.lines().rev();
+    let last = lines.next()?;
+    if let Some(steps) = last.strip_prefix("done=") {
+        return Some(Ok(steps.parse().ok()?));
+    }
+    let step = last.strip_prefix("step=")?.parse().ok()?;
+    let number = lines.next()?.strip_prefix("refused=")?.parse().ok()?;
+    Some(Err((number, step)))
 }
 
 /// The buffer for the output of runs, one after the other, and how many of them ended how.
@@ -52,19 +65,26 @@ impl Runs {
         }
     }
 
-    /// One run of the library. Its output's buffer is made as it was.
+    /// One run of the library, which ends as its output tells. The output's buffer is made as it was.
     pub fn run(&mut self, text: &[u8], memory: &Memory) -> Left {
-        let ((output, store), memory) = lend(memory, |[av, au, sv, su]| {
+        let ((output, store, ending), memory) = lend(memory, |[av, au, sv, su]| {
             let ran = run(text, av, au, sv, su, &mut self.out);
-            (ran.output.to_string(), ran.store)
+            (ran.output.to_string(), ran.store, ran.ending)
         });
         self.out[..output.len()].fill(STOOD);
-        let ending = output.lines().rev().find(|line| line.starts_with("refused=")).unwrap_or("done");
-        *self.endings.entry(ending.to_string()).or_default() += 1;
-        Left { output, store, memory }
+        let ending = ending.map_err(|(refusal, step)| (refusal.number(), step));
+        assert_eq!(Some(ending), told(&output), "another ending than the output tells");
+        let kind = ending.map_or_else(|(number, _)| format!("refused={number}"), |_| "done".to_string());
+        *self.endings.entry(kind).or_default() += 1;
+        Left {
+            output,
+            ending,
+            store,
+            memory,
+        }
     }
 
-    /// A run gives the output, the store and every word of memory as the reference has them.
+    /// A run gives the output, the ending, the store and every word of memory as the reference has them.
     pub fn compare(&mut self, text: &[u8], memory: &Memory) -> Left {
         let want = steps::run(text, memory.clone());
         let got = self.run(text, memory);
@@ -73,6 +93,7 @@ impl Runs {
             assert_eq!(ours, theirs, "line {} of the output of\n{}", k + 1, list());
         }
         assert!(got.output == want.output, "another output of\n{}", list());
+        assert_eq!(got.ending, want.ending, "another ending of\n{}", list());
         assert!(got.store == store_of(&want.machine), "another store after\n{}", list());
         assert!(got.memory == want.machine.memory, "other words in memory after\n{}", list());
         got

@@ -149,38 +149,44 @@ impl Machine {
         Ok(())
     }
 
-    /// Every input and every step, until one is refused: the output's text.
-    fn run(&mut self, list: &List) -> String {
-        let refused = |number: u8, step: usize| format!("refused={number}\nstep={step}\n");
-        for v in &list.inputs {
-            if let Err(number) = self.add_input(v) {
-                return refused(number, 0);
-            }
-        }
-        let mut output = String::new();
-        for (k, step) in list.steps.iter().enumerate() {
-            if let Err(number) = self.add_step(*step) {
-                return output + &refused(number, k + 1);
-            }
+    /// Every input and every step, until one is refused. The lines of each new cell are put behind the output.
+    fn run(&mut self, list: &List, output: &mut String) -> Ending {
+        list.inputs
+            .iter()
+            .try_for_each(|v| self.add_input(v))
+            .map_err(|number| (number, 0))?;
+        let mut done = 0;
+        for step in &list.steps {
+            self.add_step(*step).map_err(|number| (number, done + 1))?;
+            done += 1;
             let cell = self.cells.len() - 1;
-            output += &format!("cell={cell}\nbits={}\n", digits(&self.cells[cell]));
+            *output += &format!("cell={cell}\nbits={}\n", digits(&self.cells[cell]));
         }
-        output + &format!("done={}\n", list.steps.len())
+        Ok(done)
     }
 }
 
-/// The cells and the memory that a run leaves, and its output.
+/// How many steps were done, or a refusal's number and its step: from 1, 0 for the text or an input.
+pub type Ending = Result<u32, (u8, u32)>;
+
+/// The cells and the memory that a run leaves, its output, and how it ended.
 pub struct Ran {
     pub machine: Machine,
     pub output: String,
+    pub ending: Ending,
 }
 
 /// The run of a text in memory of some contents.
 pub fn run(text: &[u8], memory: Memory) -> Ran {
     let mut machine = Machine::new(memory);
-    let output = match List::read(text) {
-        Some(list) => machine.run(&list),
-        None => "refused=6\nstep=0\n".to_string(),
+    let mut output = String::new();
+    let ending = match List::read(text) {
+        Some(list) => machine.run(&list, &mut output),
+        None => Err((6, 0)),
     };
-    Ran { machine, output }
+    output += &match ending {
+        Ok(steps) => format!("done={steps}\n"),
+        Err((number, step)) => format!("refused={number}\nstep={step}\n"),
+    };
+    Ran { machine, output, ending }
 }

@@ -6,4 +6,4 @@ mod machine;
 
 pub use draw::{Drawn, Shape};
 pub use list::{keeps_known, operands, List};
-pub use machine::{run, Machine, Memory, Ran};
+pub use machine::{run, Ending, Machine, Memory, Ran};
