@@ -22,8 +22,8 @@ use Rattle.replay.specs.Text.{has, partOf, fieldText, bareOf, decimalOf}
 -- ---- a vector
 
 -- the characters of a vector's bits: all behind its mark or, where there are colons, part 3
-unfoldable pub bitText : List ℕ → List ℕ
-bitText s =
+unfoldable pub bitCharacters : List ℕ → List ℕ
+bitCharacters s =
     let v = bareOf s in
     cond (has (code ":") v) (partOf (code ":") 3 v) v
 
@@ -32,13 +32,13 @@ abbrev pub bitsOf : List ℕ → List LogicBit
 bitsOf t = bitsIn t 0 (length t)
 
 -- whether the letter in front is c, or g, which is s and f
-abbrev pub marked : ℕ → List ℕ → Bool
-marked c s = eqb (getD s 0 0) c || eqb (getD s 0 0) (code "g")
+abbrev pub hasMark : ℕ → List ℕ → Bool
+hasMark c s = eqb (getD s 0 0) c || eqb (getD s 0 0) (code "g")
 
 -- a header, with the lowest 32 bits of a width, and how many words each plane has
 abbrev pub sized : List ℕ → ℕ → ℕ → ℕ → Sizes
 sized s w a b = record {
-  header = record { width = w % 2 ^ 32; «is_signed» = marked (code "s") s; «is_fill» = marked (code "f") s };
+  header = record { width = w % 2 ^ 32; «is_signed» = hasMark (code "s") s; «is_fill» = hasMark (code "f") s };
   value = a;
   unknown = b;
 }
@@ -58,8 +58,8 @@ abbrev pub wholeReal : List ℕ → Float
 wholeReal t = Ieee.ofInt binary64 (pos (decimalOf t))
 
 -- `r`, maybe a minus, and a quotient, each number and then the quotient rounded to nearest
-unfoldable pub realOf : List ℕ → Float
-realOf s =
+unfoldable pub realTold : List ℕ → Float
+realTold s =
     let n = wholeReal (partOf (code "/") 0 (bareOf (bareOf s))) in
     Ieee.div binary64 (cond (has (code "-") s) (Ieee.neg n) n) (wholeReal (partOf (code "/") 1 s))
 
@@ -71,8 +71,8 @@ fieldOf s m n = record {
   «is_refusal» = has (code "!") s;
   «is_real» = has (code "r") s;
   number = decimalOf (bareOf s);
-  real = realOf s;
-  word = wordAt (at (bitsOf (bitText s))) 0;
+  real = realTold s;
+  word = wordAt (at (bitsOf (bitCharacters s))) 0;
   header = sizesOf s .header;
   value = m;
   unknown = n;
@@ -96,7 +96,7 @@ readField k line p =
     let s = fieldText k line in
     let m = min (sizesOf s .value) (length (p .value)) in
     let n = min (sizesOf s .unknown) (length (p .unknown)) in
-    let bs = bitsOf (bitText s) in
+    let bs = bitsOf (bitCharacters s) in
     record { field = fieldOf s m n; planes = lent (loaded false bs m (p .value)) (loaded true bs n (p .unknown)) }
 
 -- ---- what a call leaves

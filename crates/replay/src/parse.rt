@@ -12,7 +12,7 @@ ghost use Rattle.words.specs.Vector.{at};
 ghost use Rattle.words.specs.Planes.{wordAt};
 ghost use Rattle.replay.specs.Text.{before, placeFrom, has as hasByte, partOf, bareOf, decimalOf};
 ghost use Rattle.replay.specs.Calls.{nameFrom, callNames, fitsIn};
-ghost use Rattle.replay.specs.Fields.{bitText, bitsOf, sized as sizedBy, sizesOf, realOf, loaded};
+ghost use Rattle.replay.specs.Fields.{bitCharacters, bitsOf, sized as sizedBy, sizesOf, realTold, loaded};
 
 // The place of the first such byte from a place on, or the end.
 pub(crate) fn until(s: &[u8], at: usize, byte: u8) -> usize
@@ -149,7 +149,7 @@ pub(crate) fn bare(s: &[u8]) -> &[u8]
 
 // A real: `r`, maybe a minus, and a quotient of two numbers, as r-5/2.
 pub(crate) fn real(s: &[u8]) -> f64
-    ensures { λ r. ⌜ r ≡ realOf (now (s .entry)) ⌝ }
+    ensures { λ r. ⌜ r ≡ realTold (now (s .entry)) ⌝ }
 {
     let n = std::num::nearest_u64_to_f64(decimal(part(bare(bare(s)), 0, b'/')));
     let d = std::num::nearest_u64_to_f64(decimal(part(s, 1, b'/')));
@@ -212,7 +212,7 @@ pub(crate) fn sizes_of(s: &[u8]) -> Sizes
 
 // The characters of a vector's bits.
 pub(crate) fn bits_of(s: &[u8]) -> &[u8]
-    ensures { λ r. ⌜ now r ≡ bitText (now (s .entry)) ⌝ }
+    ensures { λ r. ⌜ now r ≡ bitCharacters (now (s .entry)) ⌝ }
 {
     let vector = bare(s);
     if has(vector, b':') {

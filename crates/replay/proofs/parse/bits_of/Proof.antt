@@ -1,6 +1,6 @@
 -- By the first colon.
 use mathlib.Core.Path.{sym, _∙_}
-use Rattle.replay.specs.Fields.{bitText}
+use Rattle.replay.specs.Fields.{bitCharacters}
 use borrow.Author.Needs.{needs}
 use Rattle.replay.proofs.parse.bits_of.Statement.{statement}
 use Rattle.replay.proofs.parse.bits_of.Tie as tie
@@ -15,13 +15,13 @@ part-requires : tie.Need-part-requires
 part-requires c κs = search needs
 
 returns : tie.Need-returns
-unfolding bitText
+unfolding bitCharacters
 returns c =
     let w = c .before .before in
     rw (sym (w .before .bare .ensures), sym (w .has .ensures) ∙ c .before .if1 .taken) (c .part .ensures)
 
 returns-2 : tie.Need-returns-2
-unfolding bitText
+unfolding bitCharacters
 returns-2 c =
     let w = c .before in
     rw (sym (w .before .bare .ensures), sym (w .has .ensures) ∙ c .if1 .left)

@@ -6,7 +6,7 @@ use Prim.Native.Char.{code}
 use lib.IntN.{pos}
 use lib.Ieee.{Float, binary64, ofInt, neg, div}
 use Rattle.replay.specs.Text.{has, partOf, bareOf, decimalOf}
-use Rattle.replay.specs.Fields.{wholeReal, realOf}
+use Rattle.replay.specs.Fields.{wholeReal, realTold}
 use borrow.Author.Needs.{needs}
 use Rattle.replay.proofs.parse.real.Statement.{statement}
 use Rattle.replay.proofs.parse.real.Tie as tie
@@ -62,13 +62,13 @@ has-requires : tie.Need-has-requires
 has-requires c κs = search needs
 
 returns : tie.Need-returns
-unfolding realOf
+unfolding realTold
 returns c =
     let w = c .before in
     rw (sym (minus w) ∙ c .if1 .taken) (ap₂ (λ (x y : Float). div binary64 (neg x) y) (numerator w) (denominator w))
 
 returns-2 : tie.Need-returns-2
-unfolding realOf
+unfolding realTold
 returns-2 c =
     let w = c .before in
     rw (sym (minus w) ∙ c .if1 .left) (ap₂ (λ (x y : Float). div binary64 x y) (numerator w) (denominator w))
