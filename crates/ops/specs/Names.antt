@@ -1,6 +1,7 @@
 -- Document 01, "Step list": the names of the ops, in its order; and the code that an op has in the exports.
 use mathlib.Core.Bool.{cond}
 use Prim.Native.Nat.{ℕ}
+use Prim.Native.String.{String}
 use mathlib.Core.List.{List, [], _∷_}
 use lib.Dec.{eqb}
 use Rattle.ops.specs.declared.Op.{Op}
@@ -11,25 +12,25 @@ use Rattle.ops.specs.declared.OpAnswer.the-variants as answer
 abbrev pub allOps : List Op
 allOps = And ∷ Or ∷ Xor ∷ Not ∷ Merge ∷ ReduceAnd ∷ ReduceOr ∷ ReduceXor ∷ Equal ∷ CaseEqual ∷ CasezEqual ∷ CasexEqual ∷ WildcardEqual ∷ LogicAnd ∷ LogicOr ∷ Select ∷ Insert ∷ []
 
--- and, or, xor, not, mrg, rand, ror, rxor, eq, ceq, cz, cx, weq, land, lor, sel, ins
-abbrev pub opName : Op → List ℕ
-opName And = 97 ∷ 110 ∷ 100 ∷ []
-opName Or = 111 ∷ 114 ∷ []
-opName Xor = 120 ∷ 111 ∷ 114 ∷ []
-opName Not = 110 ∷ 111 ∷ 116 ∷ []
-opName Merge = 109 ∷ 114 ∷ 103 ∷ []
-opName ReduceAnd = 114 ∷ 97 ∷ 110 ∷ 100 ∷ []
-opName ReduceOr = 114 ∷ 111 ∷ 114 ∷ []
-opName ReduceXor = 114 ∷ 120 ∷ 111 ∷ 114 ∷ []
-opName Equal = 101 ∷ 113 ∷ []
-opName CaseEqual = 99 ∷ 101 ∷ 113 ∷ []
-opName CasezEqual = 99 ∷ 122 ∷ []
-opName CasexEqual = 99 ∷ 120 ∷ []
-opName WildcardEqual = 119 ∷ 101 ∷ 113 ∷ []
-opName LogicAnd = 108 ∷ 97 ∷ 110 ∷ 100 ∷ []
-opName LogicOr = 108 ∷ 111 ∷ 114 ∷ []
-opName Select = 115 ∷ 101 ∷ 108 ∷ []
-opName Insert = 105 ∷ 110 ∷ 115 ∷ []
+-- the name of an op in a step list
+abbrev pub opName : Op → String
+opName And = "and"
+opName Or = "or"
+opName Xor = "xor"
+opName Not = "not"
+opName Merge = "mrg"
+opName ReduceAnd = "rand"
+opName ReduceOr = "ror"
+opName ReduceXor = "rxor"
+opName Equal = "eq"
+opName CaseEqual = "ceq"
+opName CasezEqual = "cz"
+opName CasexEqual = "cx"
+opName WildcardEqual = "weq"
+opName LogicAnd = "land"
+opName LogicOr = "lor"
+opName Select = "sel"
+opName Insert = "ins"
 
 -- ---- codes
 

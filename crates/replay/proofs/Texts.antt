@@ -14,7 +14,8 @@ use borrow.Author.Tests.{eq-eqb, ne-eqb}
 use lib.Dec.{eqb}
 use lib.ListN.{length, getD, take, drop, length-drop, drop-of-length-le}
 use lib.Seq.{drop-cons, drop-drop, take-all}
-use Rattle.replay.specs.Text.{bytes, before, placeFrom, has, partOf, bareOf, digitsFrom}
+use Rattle.replay.specs.Text.{before, placeFrom, has, partOf, bareOf, digitsFrom}
+use Rattle.text.specs.Read.{bytes}
 
 module _ (b : ℕ) where
   take-before : (s : List ℕ) → take (length (before b s)) s ≡ before b s

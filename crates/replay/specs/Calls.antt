@@ -4,7 +4,8 @@ use mathlib.Core.Bool.{Bool, true, false, _&&_, cond}
 use mathlib.Core.List.{List, [], _∷_, _++_}
 use Prim.Native.Char.{code}
 use lib.Dec.{eqb, leb}
-use Rattle.replay.specs.Text.{bytes, partOf, fieldText}
+use Rattle.replay.specs.Text.{partOf, fieldText}
+use Rattle.text.specs.Read.{bytes}
 use Rattle.replay.specs.Fields.{sizesOf}
 
 -- whether two texts are the same

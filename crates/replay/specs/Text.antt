@@ -4,15 +4,10 @@ use Prim.Native.Nat.{ℕ, zero, suc, _+_, _*_, _%_, _^_, _<_, max}
 use mathlib.Core.Path.{_≡_}
 use mathlib.Core.Bool.{Bool, cond}
 use mathlib.Core.List.{List, [], _∷_}
-use Prim.Native.String.{String, [] as []ˢ, _∷_ as _∷ˢ_}
 use Prim.Native.Char.{code}
 use lib.Dec.{eqb, ltb}
 use lib.ListN.{length, getD, drop}
-
--- the bytes of an ASCII text
-abbrev pub bytes : String → List ℕ
-bytes []ˢ = []
-bytes (c ∷ˢ t) = code c ∷ bytes t
+use Rattle.text.specs.Read.{bytes}
 
 -- what reading a file into a buffer leaves. What the file holds is free: the kit says how many bytes are read, not which. The buffer keeps its
 -- length, and the count of the bytes is 0 or smaller than that

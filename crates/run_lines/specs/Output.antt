@@ -1,27 +1,23 @@
 -- Document 01, "Step list": the lines that a run writes.
 use Prim.Native.Nat.{ℕ}
-use mathlib.Core.List.{List, [], _∷_, _++_}
+use mathlib.Core.List.{List, _++_}
 use lib.ListN.{take}
 use Rattle.bit.specs.declared.LogicBit.{LogicBit}
 use Rattle.words.specs.Planes.{Planes, wordCount, fromPlanes}
-use Rattle.text.specs.Read.{bitsKey}
+use Rattle.text.specs.Read.{bytes, bitsKey}
 use Rattle.text.specs.Write.{numberText, bitsText}
 
--- `cell=`
 abbrev pub cellKey : List ℕ
-cellKey = 99 ∷ 101 ∷ 108 ∷ 108 ∷ 61 ∷ []
+cellKey = bytes "cell="
 
--- `done=`
 abbrev pub doneKey : List ℕ
-doneKey = 100 ∷ 111 ∷ 110 ∷ 101 ∷ 61 ∷ []
+doneKey = bytes "done="
 
--- `refused=`
 abbrev pub refusedKey : List ℕ
-refusedKey = 114 ∷ 101 ∷ 102 ∷ 117 ∷ 115 ∷ 101 ∷ 100 ∷ 61 ∷ []
+refusedKey = bytes "refused="
 
--- `step=`
 abbrev pub stepKey : List ℕ
-stepKey = 115 ∷ 116 ∷ 101 ∷ 112 ∷ 61 ∷ []
+stepKey = bytes "step="
 
 -- the vector of width w at the front of the planes
 abbrev pub frontBits : ℕ → Planes → List LogicBit

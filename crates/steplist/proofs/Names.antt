@@ -18,8 +18,8 @@ use Rattle.text.proofs.Places.{got, not-got}
 use Rattle.text.proofs.Names.{distinct, nameText, oneOf-exact}
 use Rattle.ops.specs.declared.Op.{Op}
 use Rattle.ops.specs.declared.Op.the-variants.{And, Or, Xor, Not, Merge, ReduceAnd, ReduceOr, ReduceXor, Equal, CaseEqual, CasezEqual, CasexEqual, WildcardEqual, LogicAnd, LogicOr, Select, Insert}
-use Rattle.steplist.specs.OpLine.{nameLine, choiceLine, opKey, opLine}
-use Rattle.ops.specs.Names.{opName, allOps}
+use Rattle.steplist.specs.OpLine.{opText, nameLine, choiceLine, opKey, opLine}
+use Rattle.ops.specs.Names.{allOps}
 use Rattle.steplist.specs.Answers.{opIn}
 use Rattle.steplist.specs.declared.OpRead.{OpRead}
 
@@ -81,9 +81,9 @@ op-listed LogicOr = (14, omega arith, refl)
 op-listed Select = (15, omega arith, refl)
 op-listed Insert = (16, omega arith, refl)
 
-pub op-exact : Exact opLine (λ o. opKey ++ (opName o ++ lineEnd)) (λ o. Unit {0})
+pub op-exact : Exact opLine (λ o. opKey ++ (opText o ++ lineEnd)) (λ o. Unit {0})
 unfolding opLine
-op-exact = choice-exact opKey opName allOps And refl op-listed
+op-exact = choice-exact opKey opText allOps And refl op-listed
 
 -- ---- the code's answer
 

@@ -9,7 +9,7 @@ use lib.Dec.{leb}
 use lib.ListN.{length}
 use Rattle.refusal.specs.Outcome.{Answer}
 use Rattle.refusal.specs.Outcome.Answer.{given, refused}
-use Rattle.text.specs.Read.{Got, next, lineEnd, numberLine, bitsKey, bitsLine, many}
+use Rattle.text.specs.Read.{bytes, Got, next, lineEnd, numberLine, bitsKey, bitsLine, many}
 use Rattle.text.specs.Read.Got.{found, broken}
 use Rattle.text.specs.Write.{texts, numberText, bitsText}
 use Rattle.text.specs.Exact.{All}
@@ -17,8 +17,7 @@ use Rattle.value.specs.declared.Header.{Header}
 use Rattle.value.specs.Checks.{Vector}
 use Rattle.ops.specs.declared.Op.{Op}
 use Rattle.ops.specs.declared.Step.{Step}
-use Rattle.steplist.specs.OpLine.{choiceLine, opKey, opLine, largest}
-use Rattle.ops.specs.Names.{opName}
+use Rattle.steplist.specs.OpLine.{opText, choiceLine, opKey, opLine, largest}
 
 -- a list: its inputs and its steps, in order
 pub record StepList : Type 0 where
@@ -27,13 +26,11 @@ pub record StepList : Type 0 where
 
 -- ---- an input: width=, kind=, bits=
 
--- `width=`
 abbrev pub widthKey : List ℕ
-widthKey = 119 ∷ 105 ∷ 100 ∷ 116 ∷ 104 ∷ 61 ∷ []
+widthKey = bytes "width="
 
--- `kind=`
 abbrev pub kindKey : List ℕ
-kindKey = 107 ∷ 105 ∷ 110 ∷ 100 ∷ 61 ∷ []
+kindKey = bytes "kind="
 
 -- unsigned, signed, unsigned fill
 pub data Kind : Type 0 where
@@ -44,11 +41,10 @@ pub data Kind : Type 0 where
 abbrev pub allKinds : List Kind
 allKinds = unsigned ∷ signed ∷ fill ∷ []
 
--- u, s, f
 abbrev pub kindName : Kind → List ℕ
-kindName unsigned = 117 ∷ []
-kindName signed = 115 ∷ []
-kindName fill = 102 ∷ []
+kindName unsigned = bytes "u"
+kindName signed = bytes "s"
+kindName fill = bytes "f"
 
 abbrev pub kindHeader : ℕ → Kind → Header
 kindHeader w unsigned = record { width = w; «is_signed» = false; «is_fill» = false }
@@ -76,17 +72,14 @@ InputWithin x = (x .header .width ≤ 4096) × (length (x .bits) ≡ x .header .
 
 -- ---- a step: op=, a=, b=, c=
 
--- `a=`
 abbrev pub aKey : List ℕ
-aKey = 97 ∷ 61 ∷ []
+aKey = bytes "a="
 
--- `b=`
 abbrev pub bKey : List ℕ
-bKey = 98 ∷ 61 ∷ []
+bKey = bytes "b="
 
--- `c=`
 abbrev pub cKey : List ℕ
-cKey = 99 ∷ 61 ∷ []
+cKey = bytes "c="
 
 -- the numbers of a step with the op o
 unfoldable pub numbers : Op → List ℕ → Got Step
@@ -101,20 +94,18 @@ step t = next (opLine t) numbers
 
 unfoldable pub stepText : Step → List ℕ
 stepText x =
-    (opKey ++ (opName (x .op) ++ lineEnd)) ++ ((aKey ++ numberText (x .a)) ++ ((bKey ++ numberText (x .b)) ++ (cKey ++ numberText (x .c))))
+    (opKey ++ (opText (x .op) ++ lineEnd)) ++ ((aKey ++ numberText (x .a)) ++ ((bKey ++ numberText (x .b)) ++ (cKey ++ numberText (x .c))))
 
 unfoldable pub StepWithin : Step → Type 0
 StepWithin x = (x .a ≤ largest (x .op) 0) × (x .b ≤ largest (x .op) 1) × (x .c ≤ largest (x .op) 2)
 
 -- ---- the whole list: inputs=, steps=, then the inputs, then the steps
 
--- `inputs=`
 abbrev pub inputsKey : List ℕ
-inputsKey = 105 ∷ 110 ∷ 112 ∷ 117 ∷ 116 ∷ 115 ∷ 61 ∷ []
+inputsKey = bytes "inputs="
 
--- `steps=`
 abbrev pub stepsKey : List ℕ
-stepsKey = 115 ∷ 116 ∷ 101 ∷ 112 ∷ 115 ∷ 61 ∷ []
+stepsKey = bytes "steps="
 
 -- inputs= 0 to 64, steps= 0 to 256
 unfoldable pub list : List ℕ → Got StepList

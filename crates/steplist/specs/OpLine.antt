@@ -1,10 +1,10 @@
 -- Document 01, "Step list": the line op=, which gives the op by its name, and how large the numbers of a step may be.
 use Prim.Native.Nat.{ℕ}
 use mathlib.Core.Bool.{cond}
-use mathlib.Core.List.{List, [], _∷_, map}
+use mathlib.Core.List.{List, map}
 use lib.Dec.{ltb}
 use lib.ListN.{getD}
-use Rattle.text.specs.Read.{Got, next, key, oneOf}
+use Rattle.text.specs.Read.{bytes, Got, next, key, oneOf}
 use Rattle.text.specs.Read.Got.{found}
 use Rattle.ops.specs.declared.Op.{Op}
 use Rattle.ops.specs.declared.Op.the-variants.{And}
@@ -23,12 +23,14 @@ choiceLine k name l d t = next (nameLine k (map name l) t) (λ n. found (getD l 
 
 -- ---- the line op=
 
--- `op=`
 abbrev pub opKey : List ℕ
-opKey = 111 ∷ 112 ∷ 61 ∷ []
+opKey = bytes "op="
+
+abbrev pub opText : Op → List ℕ
+opText op = bytes (opName op)
 
 unfoldable pub opLine : List ℕ → Got Op
-opLine = choiceLine opKey opName allOps And
+opLine = choiceLine opKey opText allOps And
 
 -- ---- the numbers of a step
 

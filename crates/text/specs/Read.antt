@@ -3,9 +3,16 @@
 use Prim.Native.Nat.{ℕ, zero, suc, _+_, _-_, _*_}
 use mathlib.Core.Bool.{Bool, true, false, _&&_, _||_, cond}
 use mathlib.Core.List.{List, [], _∷_, _++_, reverse}
+use Prim.Native.String.{String, [] as []ˢ, _∷_ as _∷ˢ_}
+use Prim.Native.Char.{code}
 use lib.Dec.{eqb, leb}
 use Rattle.bit.specs.declared.LogicBit.{LogicBit}
 use Rattle.bit.specs.declared.LogicBit.the-variants.{Zero, One, X, Z}
+
+-- the bytes of an ASCII text
+abbrev pub bytes : String → List ℕ
+bytes []ˢ = []
+bytes (c ∷ˢ t) = code c ∷ bytes t
 
 -- a value and the text behind it, or neither
 pub data Got (A : Type 0) : Type 0 where
@@ -97,9 +104,8 @@ bit (c ∷ t) = onlyIf (isBit c) (found (ofByte c) t)
 unfoldable pub bits : ℕ → List ℕ → Got (List LogicBit)
 bits n t = next (many bit n t) (λ bs u. next (key lineEnd u) (λ x. found (reverse bs)))
 
--- `bits=`
 abbrev pub bitsKey : List ℕ
-bitsKey = 98 ∷ 105 ∷ 116 ∷ 115 ∷ 61 ∷ []
+bitsKey = bytes "bits="
 
 -- a line of a key and a vector of width n
 unfoldable pub bitsLine : List ℕ → ℕ → List ℕ → Got (List LogicBit)

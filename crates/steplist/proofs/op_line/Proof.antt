@@ -10,15 +10,15 @@ use Rattle.text.proofs.Names.{keyed-names}
 use Rattle.text.proofs.Places.{line-within}
 use Rattle.ops.specs.declared.Op.{Op}
 use Rattle.ops.specs.declared.Op.the-variants.{And}
-use Rattle.steplist.specs.OpLine.{nameLine, choiceLine, opKey, opLine}
-use Rattle.ops.specs.Names.{opName, allOps}
+use Rattle.steplist.specs.OpLine.{opText, nameLine, choiceLine, opKey, opLine}
+use Rattle.ops.specs.Names.{allOps}
 use Rattle.steplist.proofs.Names.{name-exact, op-line}
 use borrow.Author.Needs.{needs}
 use Rattle.steplist.proofs.op_line.Statement.{statement}
 use Rattle.steplist.proofs.op_line.Tie as tie
 
 abbrev names : List (List ℕ)
-names = map opName allOps
+names = map opText allOps
 
 -- what the call said
 module _ (c : tie.After-one-of) where
