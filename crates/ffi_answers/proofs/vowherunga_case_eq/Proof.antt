@@ -5,14 +5,8 @@ use Rattle.abi.specs.Coded.{codedBit}
 use Rattle.ffi_answers.proofs.vowherunga_case_eq.Statement.{statement}
 use Rattle.ffi_answers.proofs.vowherunga_case_eq.Tie as tie
 
-case-eq-requires : tie.Need-case-eq-requires
-case-eq-requires c κs = search needs
-
-bit-result-requires : tie.Need-bit-result-requires
-bit-result-requires c κs = search needs
-
 returns : tie.Need-returns
 returns c = c .bit-result .ensures ∙ ap codedBit (c .before .case-eq .ensures)
 
 pub vowherunga-case-eq-spec : {M : Type 1} → statement M
-vowherunga-case-eq-spec = tie.close (tie.spec case-eq-requires bit-result-requires returns)
+vowherunga-case-eq-spec = tie.close (tie.spec (λ c κs. search needs) (λ c κs. search needs) returns)

@@ -5,14 +5,8 @@ use Rattle.abi.specs.Coded.{codedBit}
 use Rattle.ffi_answers.proofs.vowherunga_casex_eq.Statement.{statement}
 use Rattle.ffi_answers.proofs.vowherunga_casex_eq.Tie as tie
 
-casex-eq-requires : tie.Need-casex-eq-requires
-casex-eq-requires c κs = search needs
-
-bit-result-requires : tie.Need-bit-result-requires
-bit-result-requires c κs = search needs
-
 returns : tie.Need-returns
 returns c = c .bit-result .ensures ∙ ap codedBit (c .before .casex-eq .ensures)
 
 pub vowherunga-casex-eq-spec : {M : Type 1} → statement M
-vowherunga-casex-eq-spec = tie.close (tie.spec casex-eq-requires bit-result-requires returns)
+vowherunga-casex-eq-spec = tie.close (tie.spec (λ c κs. search needs) (λ c κs. search needs) returns)

@@ -5,14 +5,8 @@ use Rattle.abi.specs.Coded.{codedBit}
 use Rattle.ffi_answers.proofs.vowherunga_casez_eq.Statement.{statement}
 use Rattle.ffi_answers.proofs.vowherunga_casez_eq.Tie as tie
 
-casez-eq-requires : tie.Need-casez-eq-requires
-casez-eq-requires c κs = search needs
-
-bit-result-requires : tie.Need-bit-result-requires
-bit-result-requires c κs = search needs
-
 returns : tie.Need-returns
 returns c = c .bit-result .ensures ∙ ap codedBit (c .before .casez-eq .ensures)
 
 pub vowherunga-casez-eq-spec : {M : Type 1} → statement M
-vowherunga-casez-eq-spec = tie.close (tie.spec casez-eq-requires bit-result-requires returns)
+vowherunga-casez-eq-spec = tie.close (tie.spec (λ c κs. search needs) (λ c κs. search needs) returns)

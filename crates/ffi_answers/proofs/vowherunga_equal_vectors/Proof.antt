@@ -7,12 +7,6 @@ use Rattle.abi.specs.Coded.{codedBit}
 use Rattle.ffi_answers.proofs.vowherunga_equal_vectors.Statement.{statement}
 use Rattle.ffi_answers.proofs.vowherunga_equal_vectors.Tie as tie
 
-compare-vectors-requires : tie.Need-compare-vectors-requires
-compare-vectors-requires c κs = search needs
-
-bit-result-requires : tie.Need-bit-result-requires
-bit-result-requires c κs = search needs
-
 returns : tie.Need-returns
 returns c =
     let a = c .before .before .before .before .before .before .args in
@@ -21,4 +15,4 @@ returns c =
 
 pub vowherunga-equal-vectors-spec : {M : Type 1} → statement M
 vowherunga-equal-vectors-spec =
-    tie.close (tie.spec compare-vectors-requires bit-result-requires returns)
+    tie.close (tie.spec (λ c κs. search needs) (λ c κs. search needs) returns)

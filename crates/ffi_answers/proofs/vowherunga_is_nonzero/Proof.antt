@@ -3,18 +3,9 @@ use borrow.Author.Needs.{needs}
 use Rattle.ffi_answers.proofs.vowherunga_is_nonzero.Statement.{statement}
 use Rattle.ffi_answers.proofs.vowherunga_is_nonzero.Tie as tie
 
-operand-requires : tie.Need-operand-requires
-operand-requires c κs = search needs
-
-is-nonzero-requires : tie.Need-is-nonzero-requires
-is-nonzero-requires c κs = search needs
-
-truth-result-requires : tie.Need-truth-result-requires
-truth-result-requires c κs = search needs
-
 returns : tie.Need-returns
 returns c = rw (c .truth-result .ensures, c .before .is-nonzero .ensures, c .before .before .operand .ensures)
 
 pub vowherunga-is-nonzero-spec : {M : Type 1} → statement M
 vowherunga-is-nonzero-spec =
-    tie.close (tie.spec operand-requires is-nonzero-requires truth-result-requires returns)
+    tie.close (tie.spec (λ c κs. search needs) (λ c κs. search needs) (λ c κs. search needs) returns)

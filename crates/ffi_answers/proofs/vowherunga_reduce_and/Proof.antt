@@ -5,14 +5,8 @@ use Rattle.abi.specs.Coded.{codedBit}
 use Rattle.ffi_answers.proofs.vowherunga_reduce_and.Statement.{statement}
 use Rattle.ffi_answers.proofs.vowherunga_reduce_and.Tie as tie
 
-reduce-and-requires : tie.Need-reduce-and-requires
-reduce-and-requires c κs = search needs
-
-bit-result-requires : tie.Need-bit-result-requires
-bit-result-requires c κs = search needs
-
 returns : tie.Need-returns
 returns c = c .bit-result .ensures ∙ ap codedBit (c .before .reduce-and .ensures)
 
 pub vowherunga-reduce-and-spec : {M : Type 1} → statement M
-vowherunga-reduce-and-spec = tie.close (tie.spec reduce-and-requires bit-result-requires returns)
+vowherunga-reduce-and-spec = tie.close (tie.spec (λ c κs. search needs) (λ c κs. search needs) returns)

@@ -5,14 +5,8 @@ use Rattle.abi.specs.Coded.{codedBit}
 use Rattle.ffi_answers.proofs.vowherunga_reduce_xor.Statement.{statement}
 use Rattle.ffi_answers.proofs.vowherunga_reduce_xor.Tie as tie
 
-reduce-xor-requires : tie.Need-reduce-xor-requires
-reduce-xor-requires c κs = search needs
-
-bit-result-requires : tie.Need-bit-result-requires
-bit-result-requires c κs = search needs
-
 returns : tie.Need-returns
 returns c = c .bit-result .ensures ∙ ap codedBit (c .before .reduce-xor .ensures)
 
 pub vowherunga-reduce-xor-spec : {M : Type 1} → statement M
-vowherunga-reduce-xor-spec = tie.close (tie.spec reduce-xor-requires bit-result-requires returns)
+vowherunga-reduce-xor-spec = tie.close (tie.spec (λ c κs. search needs) (λ c κs. search needs) returns)

@@ -5,14 +5,8 @@ use Rattle.abi.specs.Coded.{codedBit}
 use Rattle.ffi_answers.proofs.vowherunga_wildcard_eq.Statement.{statement}
 use Rattle.ffi_answers.proofs.vowherunga_wildcard_eq.Tie as tie
 
-wildcard-eq-requires : tie.Need-wildcard-eq-requires
-wildcard-eq-requires c κs = search needs
-
-bit-result-requires : tie.Need-bit-result-requires
-bit-result-requires c κs = search needs
-
 returns : tie.Need-returns
 returns c = c .bit-result .ensures ∙ ap codedBit (c .before .wildcard-eq .ensures)
 
 pub vowherunga-wildcard-eq-spec : {M : Type 1} → statement M
-vowherunga-wildcard-eq-spec = tie.close (tie.spec wildcard-eq-requires bit-result-requires returns)
+vowherunga-wildcard-eq-spec = tie.close (tie.spec (λ c κs. search needs) (λ c κs. search needs) returns)

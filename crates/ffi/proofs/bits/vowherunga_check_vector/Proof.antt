@@ -5,14 +5,8 @@ use Rattle.abi.specs.Coded.{codedDone}
 use Rattle.ffi.proofs.bits.vowherunga_check_vector.Statement.{statement}
 use Rattle.ffi.proofs.bits.vowherunga_check_vector.Tie as tie
 
-check-vector-requires : tie.Need-check-vector-requires
-check-vector-requires c κs = search needs
-
-done-requires : tie.Need-done-requires
-done-requires c κs = search needs
-
 returns : tie.Need-returns
 returns c = c .done .ensures ∙ ap codedDone (c .before .check-vector .ensures)
 
 pub vowherunga-check-vector-spec : {M : Type 1} → statement M
-vowherunga-check-vector-spec = tie.close (tie.spec check-vector-requires done-requires returns)
+vowherunga-check-vector-spec = tie.close (tie.spec (λ c κs. search needs) (λ c κs. search needs) returns)

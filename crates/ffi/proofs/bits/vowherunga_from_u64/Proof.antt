@@ -5,22 +5,10 @@ use Rattle.abi.proofs.Coding.{coding}
 use Rattle.ffi.proofs.bits.vowherunga_from_u64.Statement.{statement}
 use Rattle.ffi.proofs.bits.vowherunga_from_u64.Tie as tie
 
-from-u64-requires : tie.Need-from-u64-requires
-from-u64-requires c κs = search needs
-
-header-result-requires : tie.Need-header-result-requires
-header-result-requires c κs = search needs
-
-same-length : tie.Need-same-length
-same-length c = search needs
-
-same-length-2 : tie.Need-same-length-2
-same-length-2 c = search needs
-
 returns : tie.Need-returns
 returns c = coding codedHeader (c .header-result .ensures) (c .before .before .before .before .before .from-u64 .ensures)
 
 pub vowherunga-from-u64-spec : {M : Type 1} → statement M
 vowherunga-from-u64-spec =
     tie.close
-    (tie.spec from-u64-requires header-result-requires same-length same-length-2 returns)
+    (tie.spec (λ c κs. search needs) (λ c κs. search needs) (λ c. search needs) (λ c. search needs) returns)

@@ -5,22 +5,10 @@ use Rattle.abi.proofs.Coding.{coding}
 use Rattle.ffi.proofs.vectors.vowherunga_from_real_wrapped.Statement.{statement}
 use Rattle.ffi.proofs.vectors.vowherunga_from_real_wrapped.Tie as tie
 
-from-real-wrapped-requires : tie.Need-from-real-wrapped-requires
-from-real-wrapped-requires c κs = search needs
-
-header-result-requires : tie.Need-header-result-requires
-header-result-requires c κs = search needs
-
-same-length : tie.Need-same-length
-same-length c = search needs
-
-same-length-2 : tie.Need-same-length-2
-same-length-2 c = search needs
-
 returns : tie.Need-returns
 returns c = coding codedHeader (c .header-result .ensures) (c .before .before .before .before .before .from-real-wrapped .ensures)
 
 pub vowherunga-from-real-wrapped-spec : {M : Type 1} → statement M
 vowherunga-from-real-wrapped-spec =
     tie.close
-    (tie.spec from-real-wrapped-requires header-result-requires same-length same-length-2 returns)
+    (tie.spec (λ c κs. search needs) (λ c κs. search needs) (λ c. search needs) (λ c. search needs) returns)
