@@ -25,15 +25,6 @@ unsigned Or h a b = refl
 unsigned Xor h a b = refl
 unsigned Merge h a b = absurd (miss (0 ∷ 1 ∷ 2 ∷ []) 3 tt h)
 
-larger-requires : tie.Need-larger-requires
-larger-requires c κs = search needs
-
-plain-header-requires : tie.Need-plain-header-requires
-plain-header-requires c κs = search needs
-
-enum-told : tie.Need-enum-told
-enum-told c = search needs
-
 returns : tie.Need-returns
 returns c =
     let l = c .before .before in
@@ -48,4 +39,4 @@ returns-2 c =
     rw (t .enum-told .given .1) (ap (λ (w : ℕ). headerBy w (leb w 64 && (a .a .«is_signed» && a .b .«is_signed»))) (l .larger .ensures))
 
 pub result-header-spec : {M : Type 1} → statement M
-result-header-spec = tie.close (tie.spec larger-requires plain-header-requires enum-told returns returns-2)
+result-header-spec = tie.close (tie.spec (λ c κs. search needs) (λ c κs. search needs) (λ c. search needs) returns returns-2)

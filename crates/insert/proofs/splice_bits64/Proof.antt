@@ -9,15 +9,6 @@ use borrow.Author.Needs.{needs}
 use Rattle.insert.proofs.splice_bits64.Statement.{statement}
 use Rattle.insert.proofs.splice_bits64.Tie as tie
 
-check-vector-requires : tie.Need-check-vector-requires
-check-vector-requires c κs = search needs
-
-enum-known-r : tie.Need-enum-known-r
-enum-known-r c = search needs
-
-enum-told : tie.Need-enum-told
-enum-told c = search needs
-
 splice-bits64-requires : tie.Need-splice-bits64-requires
 splice-bits64-requires c κs =
     let t = c .before .before in
@@ -25,22 +16,10 @@ splice-bits64-requires c κs =
     let p = vector-accepted (a .a) (lent (a .value .now) (a .unknown .now)) (sym (t .before .before .check-vector .ensures) ∙ ap verdict (t .enum-told .given .1)) in
     (p .planes .value-plane, p .planes .unknown-plane)
 
-same-length : tie.Need-same-length
-same-length c = search needs
-
-same-length-2 : tie.Need-same-length-2
-same-length-2 c = search needs
-
 returns : tie.Need-returns
 returns c =
     let t = c .before in
     simp (sym (t .before .before .check-vector .ensures) ∙ ap verdict (t .r .given .1))
-
-same-length-3 : tie.Need-same-length-3
-same-length-3 c = search needs
-
-same-length-4 : tie.Need-same-length-4
-same-length-4 c = search needs
 
 returns-2 : tie.Need-returns-2
 returns-2 c =
@@ -53,13 +32,13 @@ pub splice-bits64-spec : {M : Type 1} → statement M
 splice-bits64-spec =
     tie.close
     (tie.spec
-    check-vector-requires
-    enum-known-r
-    enum-told
+    (λ c κs. search needs)
+    (λ c. search needs)
+    (λ c. search needs)
     splice-bits64-requires
-    same-length
-    same-length-2
+    (λ c. search needs)
+    (λ c. search needs)
     returns
-    same-length-3
-    same-length-4
+    (λ c. search needs)
+    (λ c. search needs)
     returns-2)

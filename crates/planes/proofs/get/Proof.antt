@@ -6,15 +6,6 @@ use borrow.Author.Needs.{needs}
 use Rattle.planes.proofs.get.Statement.{statement}
 use Rattle.planes.proofs.get.Tie as tie
 
-check-planes-requires : tie.Need-check-planes-requires
-check-planes-requires c κs = search needs
-
-enum-known-r : tie.Need-enum-known-r
-enum-known-r c = search needs
-
-enum-told : tie.Need-enum-told
-enum-told c = search needs
-
 get-requires : tie.Need-get-requires
 get-requires c κs =
     let h = planes-accepted _ _ (sym (c .before .before .check-planes .ensures) ∙ ap verdict (c .enum-told .given .1)) in
@@ -33,4 +24,4 @@ returns-2 c =
 pub get-spec : {M : Type 1} → statement M
 get-spec =
     tie.close
-    (tie.spec check-planes-requires enum-known-r enum-told get-requires returns returns-2)
+    (tie.spec (λ c κs. search needs) (λ c. search needs) (λ c. search needs) get-requires returns returns-2)

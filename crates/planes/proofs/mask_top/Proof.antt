@@ -10,15 +10,6 @@ use borrow.Author.Needs.{needs}
 use Rattle.planes.proofs.mask_top.Statement.{statement}
 use Rattle.planes.proofs.mask_top.Tie as tie
 
-check-lengths-requires : tie.Need-check-lengths-requires
-check-lengths-requires c κs = search needs
-
-enum-known-r : tie.Need-enum-known-r
-enum-known-r c = search needs
-
-enum-told : tie.Need-enum-told
-enum-told c = search needs
-
 mask-plane-requires : tie.Need-mask-plane-requires
 mask-plane-requires c κs =
     let t = c .before in
@@ -29,22 +20,10 @@ mask-plane-requires-2 c κs =
     let t = c .before .before .before .before .before in
     lengths-accepted _ _ (sym (t .before .before .check-lengths .ensures) ∙ ap verdict (t .enum-told .given .1)) .unknown-length
 
-same-length : tie.Need-same-length
-same-length c = search needs
-
-same-length-2 : tie.Need-same-length-2
-same-length-2 c = search needs
-
 returns : tie.Need-returns
 returns c =
     let t = c .before in
     simp (sym (t .before .before .check-lengths .ensures) ∙ ap verdict (t .r .given .1))
-
-same-length-3 : tie.Need-same-length-3
-same-length-3 c = search needs
-
-same-length-4 : tie.Need-same-length-4
-same-length-4 c = search needs
 
 returns-2 : tie.Need-returns-2
 returns-2 c =
@@ -58,14 +37,14 @@ pub mask-top-spec : {M : Type 1} → statement M
 mask-top-spec =
     tie.close
     (tie.spec
-    check-lengths-requires
-    enum-known-r
-    enum-told
+    (λ c κs. search needs)
+    (λ c. search needs)
+    (λ c. search needs)
     mask-plane-requires
     mask-plane-requires-2
-    same-length
-    same-length-2
+    (λ c. search needs)
+    (λ c. search needs)
     returns
-    same-length-3
-    same-length-4
+    (λ c. search needs)
+    (λ c. search needs)
     returns-2)

@@ -10,40 +10,16 @@ use borrow.Author.Needs.{needs}
 use Rattle.planes.proofs.set.Statement.{statement}
 use Rattle.planes.proofs.set.Tie as tie
 
-check-planes-requires : tie.Need-check-planes-requires
-check-planes-requires c κs = search needs
-
-enum-known-r : tie.Need-enum-known-r
-enum-known-r c = search needs
-
-enum-told : tie.Need-enum-told
-enum-told c = search needs
-
-filled-requires : tie.Need-filled-requires
-filled-requires c κs = search needs
-
 splice64-requires : tie.Need-splice64-requires
 splice64-requires c κs =
     let t = c .before .before .before in
     let h = planes-accepted _ _ (sym (t .before .before .check-planes .ensures) ∙ ap verdict (t .enum-told .given .1)) in
     (h .value-plane, h .unknown-plane)
 
-same-length : tie.Need-same-length
-same-length c = search needs
-
-same-length-2 : tie.Need-same-length-2
-same-length-2 c = search needs
-
 returns : tie.Need-returns
 returns c =
     let t = c .before in
     simp (sym (t .before .before .check-planes .ensures) ∙ ap verdict (t .r .given .1))
-
-same-length-3 : tie.Need-same-length-3
-same-length-3 c = search needs
-
-same-length-4 : tie.Need-same-length-4
-same-length-4 c = search needs
 
 returns-2 : tie.Need-returns-2
 returns-2 c =
@@ -60,14 +36,14 @@ pub set-spec : {M : Type 1} → statement M
 set-spec =
     tie.close
     (tie.spec
-    check-planes-requires
-    enum-known-r
-    enum-told
-    filled-requires
+    (λ c κs. search needs)
+    (λ c. search needs)
+    (λ c. search needs)
+    (λ c κs. search needs)
     splice64-requires
-    same-length
-    same-length-2
+    (λ c. search needs)
+    (λ c. search needs)
     returns
-    same-length-3
-    same-length-4
+    (λ c. search needs)
+    (λ c. search needs)
     returns-2)

@@ -26,18 +26,6 @@ Inv-loop op x av au y bv bu width ov₀ ou₀ xb yb k₀ ov ou k =
 abbrev μ-loop : tie.MeasureT-loop
 μ-loop op x av au y bv bu width ov₀ ou₀ xb yb k₀ ov ou k = wordCount width - k
 
-cast-least : tie.Need-cast-least Inv-loop μ-loop
-cast-least c = search needs
-
-cast-least-2 : tie.Need-cast-least-2 Inv-loop μ-loop
-cast-least-2 c = search needs
-
-least-requires : tie.Need-least-requires Inv-loop μ-loop
-least-requires c κs = search needs
-
-join-whole-requires : tie.Need-join-whole-requires Inv-loop μ-loop
-join-whole-requires c κs = search needs
-
 loop-holds : tie.Need-loop-holds Inv-loop μ-loop
 loop-holds c =
     let g = c .before .before .before .before in
@@ -50,39 +38,6 @@ loop-holds c =
       unknown-written (a .op) (a .width) (a .x) (a .av .now) (a .au .now) (a .y) (a .bv .now) (a .bu .now) (s .pre .1 .1 .0 .0) _ _ _ _ (h .1 .long ∙ s .pre .1 .1 .1 .1) n (h .1),
       omega (arith, s .fits .width),
     )
-
-operand-word-requires : tie.Need-operand-word-requires Inv-loop μ-loop
-operand-word-requires c κs = search needs
-
-operand-word-requires-2 : tie.Need-operand-word-requires-2 Inv-loop μ-loop
-operand-word-requires-2 c κs = search needs
-
-lanes-requires : tie.Need-lanes-requires Inv-loop μ-loop
-lanes-requires c κs = search needs
-
-kept-requires : tie.Need-kept-requires Inv-loop μ-loop
-kept-requires c κs = search needs
-
-ones-requires : tie.Need-ones-requires Inv-loop μ-loop
-ones-requires c κs = search needs
-
-mul-ov : tie.Need-mul-ov Inv-loop μ-loop
-mul-ov c = search needs
-
-slice-write-ov : tie.Need-slice-write-ov Inv-loop μ-loop
-slice-write-ov c = search needs
-
-mul-ou : tie.Need-mul-ou Inv-loop μ-loop
-mul-ou c = search needs
-
-slice-write-ou : tie.Need-slice-write-ou Inv-loop μ-loop
-slice-write-ou c = search needs
-
-add-k : tie.Need-add-k Inv-loop μ-loop
-add-k c = search needs
-
-loop-less : tie.Need-loop-less Inv-loop μ-loop
-loop-less c = search needs
 
 loop-again : tie.Need-loop-again Inv-loop μ-loop
 unfolding cutWord
@@ -126,22 +81,22 @@ join-extents-spec =
     (tie.spec
     Inv-loop
     μ-loop
-    cast-least
-    cast-least-2
-    least-requires
-    join-whole-requires
+    (λ c. search needs)
+    (λ c. search needs)
+    (λ c κs. search needs)
+    (λ c κs. search needs)
     loop-holds
-    operand-word-requires
-    operand-word-requires-2
-    lanes-requires
-    kept-requires
-    ones-requires
-    mul-ov
-    slice-write-ov
-    mul-ou
-    slice-write-ou
-    add-k
-    loop-less
+    (λ c κs. search needs)
+    (λ c κs. search needs)
+    (λ c κs. search needs)
+    (λ c κs. search needs)
+    (λ c κs. search needs)
+    (λ c. search needs)
+    (λ c. search needs)
+    (λ c. search needs)
+    (λ c. search needs)
+    (λ c. search needs)
+    (λ c. search needs)
     loop-again
     same-length
     same-length-2

@@ -9,15 +9,6 @@ use borrow.Author.Needs.{needs}
 use Rattle.bitwise_words.proofs.unchecked.join_planes.Statement.{statement}
 use Rattle.bitwise_words.proofs.unchecked.join_planes.Tie as tie
 
-operator-requires : tie.Need-operator-requires
-operator-requires c κs = search needs
-
-extent-requires : tie.Need-extent-requires
-extent-requires c κs = search needs
-
-extent-requires-2 : tie.Need-extent-requires-2
-extent-requires-2 c κs = search needs
-
 join-extents-requires : tie.Need-join-extents-requires
 join-extents-requires c κs =
     let y = c .before .before in
@@ -35,12 +26,6 @@ join-extents-requires c κs =
       ),
     )
 
-same-length : tie.Need-same-length
-same-length c = search needs
-
-same-length-2 : tie.Need-same-length-2
-same-length-2 c = search needs
-
 returns : tie.Need-returns
 returns c =
     let g = c .before .before .before .before in
@@ -57,10 +42,10 @@ pub join-planes-spec : {M : Type 1} → statement M
 join-planes-spec =
     tie.close
     (tie.spec
-    operator-requires
-    extent-requires
-    extent-requires-2
+    (λ c κs. search needs)
+    (λ c κs. search needs)
+    (λ c κs. search needs)
     join-extents-requires
-    same-length
-    same-length-2
+    (λ c. search needs)
+    (λ c. search needs)
     returns)

@@ -51,36 +51,6 @@ abbrev μ-loop : tie.MeasureT-loop
 loop-holds : tie.Need-loop-holds Inv-loop μ-loop
 loop-holds c = (omega arith, start refl, start refl)
 
-mul-u : tie.Need-mul-u Inv-loop μ-loop
-mul-u c = search needs
-
-shared-slice-read-u : tie.Need-shared-slice-read-u Inv-loop μ-loop
-shared-slice-read-u c = search needs
-
-mul-ov : tie.Need-mul-ov Inv-loop μ-loop
-mul-ov c = search needs
-
-shared-slice-read-ov : tie.Need-shared-slice-read-ov Inv-loop μ-loop
-shared-slice-read-ov c = search needs
-
-mul-ov-2 : tie.Need-mul-ov-2 Inv-loop μ-loop
-mul-ov-2 c = search needs
-
-slice-write-ov : tie.Need-slice-write-ov Inv-loop μ-loop
-slice-write-ov c = search needs
-
-mul-ou : tie.Need-mul-ou Inv-loop μ-loop
-mul-ou c = search needs
-
-slice-write-ou : tie.Need-slice-write-ou Inv-loop μ-loop
-slice-write-ou c = search needs
-
-add-k : tie.Need-add-k Inv-loop μ-loop
-add-k c = search needs
-
-loop-less : tie.Need-loop-less Inv-loop μ-loop
-loop-less c = search needs
-
 loop-again : tie.Need-loop-again Inv-loop μ-loop
 loop-again c =
     let l = c .before .before .before in
@@ -96,33 +66,6 @@ loop-again c =
       more (l .loop .inv .1) (omega arith) (ap (λ (w : Word). w .value) e),
       more (l .loop .inv .2) (omega (arith, s .pre .1 .0, s .pre .1 .1)) (ap (λ (w : Word). w .unknown) (e ∙ f) ∙ unknown-kept (a .width) v u k),
     )
-
-sub-last : tie.Need-sub-last Inv-loop μ-loop
-sub-last c = search needs
-
-mul-ov-3 : tie.Need-mul-ov-3 Inv-loop μ-loop
-mul-ov-3 c = search needs
-
-slice-read-ov : tie.Need-slice-read-ov Inv-loop μ-loop
-slice-read-ov c = search needs
-
-kept-requires : tie.Need-kept-requires Inv-loop μ-loop
-kept-requires c κs = search needs
-
-ones-requires : tie.Need-ones-requires Inv-loop μ-loop
-ones-requires c κs = search needs
-
-mul-ov-4 : tie.Need-mul-ov-4 Inv-loop μ-loop
-mul-ov-4 c = search needs
-
-slice-write-ov-2 : tie.Need-slice-write-ov-2 Inv-loop μ-loop
-slice-write-ov-2 c = search needs
-
-same-length : tie.Need-same-length Inv-loop μ-loop
-same-length c = search needs
-
-same-length-2 : tie.Need-same-length-2 Inv-loop μ-loop
-same-length-2 c = search needs
 
 returns : tie.Need-returns Inv-loop μ-loop
 unfolding cutWord
@@ -154,24 +97,24 @@ not-planes-spec =
     Inv-loop
     μ-loop
     loop-holds
-    mul-u
-    shared-slice-read-u
-    mul-ov
-    shared-slice-read-ov
-    mul-ov-2
-    slice-write-ov
-    mul-ou
-    slice-write-ou
-    add-k
-    loop-less
+    (λ c. search needs)
+    (λ c. search needs)
+    (λ c. search needs)
+    (λ c. search needs)
+    (λ c. search needs)
+    (λ c. search needs)
+    (λ c. search needs)
+    (λ c. search needs)
+    (λ c. search needs)
+    (λ c. search needs)
     loop-again
-    sub-last
-    mul-ov-3
-    slice-read-ov
-    kept-requires
-    ones-requires
-    mul-ov-4
-    slice-write-ov-2
-    same-length
-    same-length-2
+    (λ c. search needs)
+    (λ c. search needs)
+    (λ c. search needs)
+    (λ c κs. search needs)
+    (λ c κs. search needs)
+    (λ c. search needs)
+    (λ c. search needs)
+    (λ c. search needs)
+    (λ c. search needs)
     returns)

@@ -33,30 +33,6 @@ returns c =
           ∙ ap planesOf (sym (spliced-none bs (a .pos) (a .n) (a .bits) (simp length-tabulate (c .if1 .taken)))),
     )
 
-sub-least : tie.Need-sub-least
-sub-least c = search needs
-
-least-requires : tie.Need-least-requires
-least-requires c κs = search needs
-
-least-requires-2 : tie.Need-least-requires-2
-least-requires-2 c κs = search needs
-
-extract64-requires : tie.Need-extract64-requires
-extract64-requires c κs = search needs
-
-ones-requires : tie.Need-ones-requires
-ones-requires c κs = search needs
-
-is-word-requires : tie.Need-is-word-requires
-is-word-requires c κs = search needs
-
-same-length : tie.Need-same-length
-same-length c = search needs
-
-same-length-2 : tie.Need-same-length-2
-same-length-2 c = search needs
-
 returns-2 : tie.Need-returns-2
 returns-2 c =
     let i = c .before in
@@ -78,15 +54,6 @@ returns-2 c =
       planes-again (a .width) v u (s .pre .0) (s .pre .1) (λ k. n .before .before .before .before .slice-known .given k .fits) (λ k. n .before .before .before .slice-known2 .given k .fits)
           ∙ ap planesOf (sym (stands-spliced bs (a .pos) (a .n) (a .bits) (sym told ∙ c .if2 .taken))),
     )
-
-splice64-requires : tie.Need-splice64-requires
-splice64-requires c κs = search needs
-
-same-length-3 : tie.Need-same-length-3
-same-length-3 c = search needs
-
-same-length-4 : tie.Need-same-length-4
-same-length-4 c = search needs
 
 returns-3 : tie.Need-returns-3
 returns-3 c =
@@ -114,16 +81,16 @@ splice-bits64-spec =
     tie.close
     (tie.spec
     returns
-    sub-least
-    least-requires
-    least-requires-2
-    extract64-requires
-    ones-requires
-    is-word-requires
-    same-length
-    same-length-2
+    (λ c. search needs)
+    (λ c κs. search needs)
+    (λ c κs. search needs)
+    (λ c κs. search needs)
+    (λ c κs. search needs)
+    (λ c κs. search needs)
+    (λ c. search needs)
+    (λ c. search needs)
     returns-2
-    splice64-requires
-    same-length-3
-    same-length-4
+    (λ c κs. search needs)
+    (λ c. search needs)
+    (λ c. search needs)
     returns-3)

@@ -32,33 +32,6 @@ abbrev μ-loop : tie.MeasureT-loop
 loop-holds : tie.Need-loop-holds Inv-loop μ-loop
 loop-holds c = (omega arith, start refl, start refl)
 
-operand-word-requires : tie.Need-operand-word-requires Inv-loop μ-loop
-operand-word-requires c κs = search needs
-
-kept-requires : tie.Need-kept-requires Inv-loop μ-loop
-kept-requires c κs = search needs
-
-ones-requires : tie.Need-ones-requires Inv-loop μ-loop
-ones-requires c κs = search needs
-
-mul-value : tie.Need-mul-value Inv-loop μ-loop
-mul-value c = search needs
-
-slice-write-value : tie.Need-slice-write-value Inv-loop μ-loop
-slice-write-value c = search needs
-
-mul-unknown : tie.Need-mul-unknown Inv-loop μ-loop
-mul-unknown c = search needs
-
-slice-write-unknown : tie.Need-slice-write-unknown Inv-loop μ-loop
-slice-write-unknown c = search needs
-
-add-k : tie.Need-add-k Inv-loop μ-loop
-add-k c = search needs
-
-loop-less : tie.Need-loop-less Inv-loop μ-loop
-loop-less c = search needs
-
 loop-again : tie.Need-loop-again Inv-loop μ-loop
 loop-again c =
     let o = c .before .before in
@@ -75,12 +48,6 @@ loop-again c =
       more (l .loop .inv .2) (omega (arith, s .pre .0 .0, s .pre .0 .1))
           (ap₂ bitAnd (ap (λ (y : Word). y .unknown) x) m ∙ cut-vector unknownDigit unknown-digit-lt refl (a .width) (l .loop .k) _ f refl),
     )
-
-same-length : tie.Need-same-length Inv-loop μ-loop
-same-length c = search needs
-
-same-length-2 : tie.Need-same-length-2 Inv-loop μ-loop
-same-length-2 c = search needs
 
 returns : tie.Need-returns Inv-loop μ-loop
 returns c =
@@ -99,16 +66,16 @@ extend-into-spec =
     Inv-loop
     μ-loop
     loop-holds
-    operand-word-requires
-    kept-requires
-    ones-requires
-    mul-value
-    slice-write-value
-    mul-unknown
-    slice-write-unknown
-    add-k
-    loop-less
+    (λ c κs. search needs)
+    (λ c κs. search needs)
+    (λ c κs. search needs)
+    (λ c. search needs)
+    (λ c. search needs)
+    (λ c. search needs)
+    (λ c. search needs)
+    (λ c. search needs)
+    (λ c. search needs)
     loop-again
-    same-length
-    same-length-2
+    (λ c. search needs)
+    (λ c. search needs)
     returns)

@@ -5,21 +5,6 @@ use borrow.Author.Needs.{needs}
 use Rattle.words.proofs.unchecked.extended_word.Statement.{statement}
 use Rattle.words.proofs.unchecked.extended_word.Tie as tie
 
-kept-requires : tie.Need-kept-requires
-kept-requires c κs = search needs
-
-ones-requires : tie.Need-ones-requires
-ones-requires c κs = search needs
-
-mul-blend : tie.Need-mul-blend
-mul-blend c = search needs
-
-shared-slice-read-blend : tie.Need-shared-slice-read-blend
-shared-slice-read-blend c = search needs
-
-blend-requires : tie.Need-blend-requires
-blend-requires c κs = search needs
-
 returns : tie.Need-returns
 returns c =
     let s = c .before .before .before in
@@ -37,10 +22,10 @@ pub extended-word-spec : {M : Type 1} → statement M
 extended-word-spec =
     tie.close
     (tie.spec
-    kept-requires
-    ones-requires
-    mul-blend
-    shared-slice-read-blend
-    blend-requires
+    (λ c κs. search needs)
+    (λ c κs. search needs)
+    (λ c. search needs)
+    (λ c. search needs)
+    (λ c κs. search needs)
     returns
     returns-2)

@@ -10,12 +10,6 @@ use Rattle.words.proofs.unchecked.ones.Tie as tie
 returns : tie.Need-returns
 returns c = rw (c .if1 .taken)
 
-sub-result : tie.Need-sub-result
-sub-result c = search needs
-
-shr-result : tie.Need-shr-result
-shr-result c = search needs
-
 returns-2 : tie.Need-returns-2
 returns-2 c =
     let n = c .before .args .n in
@@ -23,4 +17,4 @@ returns-2 c =
     ap (λ (k : ℕ). (2 ^ k - 1) / 2 ^ (64 - n)) (sym e) ∙ ones-shr n (64 - n)
 
 pub ones-spec : {M : Type 1} → statement M
-ones-spec = tie.close (tie.spec sub-result shr-result returns returns-2)
+ones-spec = tie.close (tie.spec (λ c. search needs) (λ c. search needs) returns returns-2)

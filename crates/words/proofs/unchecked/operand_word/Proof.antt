@@ -8,15 +8,6 @@ use borrow.Author.Needs.{needs}
 use Rattle.words.proofs.unchecked.operand_word.Statement.{statement}
 use Rattle.words.proofs.unchecked.operand_word.Tie as tie
 
-filled-requires : tie.Need-filled-requires
-filled-requires c κs = search needs
-
-extended-word-requires : tie.Need-extended-word-requires
-extended-word-requires c κs = search needs
-
-extended-word-requires-2 : tie.Need-extended-word-requires-2
-extended-word-requires-2 c κs = search needs
-
 returns : tie.Need-returns
 returns c =
     let a = c .before .before .before .before .before .args in
@@ -30,4 +21,4 @@ returns c =
 
 pub operand-word-spec : {M : Type 1} → statement M
 operand-word-spec =
-    tie.close (tie.spec filled-requires extended-word-requires extended-word-requires-2 returns)
+    tie.close (tie.spec (λ c κs. search needs) (λ c κs. search needs) (λ c κs. search needs) returns)
