@@ -3,18 +3,6 @@ use borrow.Author.Needs.{needs}
 use Rattle.abi.proofs.bit_result.Statement.{statement}
 use Rattle.abi.proofs.bit_result.Tie as tie
 
-enum-known-a : tie.Need-enum-known-a
-enum-known-a c = search needs
-
-to-code-requires : tie.Need-to-code-requires
-to-code-requires c κs = search needs
-
-enum-known-a-2 : tie.Need-enum-known-a-2
-enum-known-a-2 c = search needs
-
-number-requires : tie.Need-number-requires
-number-requires c κs = search needs
-
 returns : tie.Need-returns
 returns c = rw (c .before .before .a .given .1, c .to-code .ensures)
 
@@ -24,4 +12,4 @@ returns-2 c = rw (c .before .before .a2 .given .1, c .number .ensures)
 pub bit-result-spec : {M : Type 1} → statement M
 bit-result-spec =
     tie.close
-    (tie.spec enum-known-a to-code-requires enum-known-a-2 number-requires returns returns-2)
+    (tie.spec (λ c. search needs) (λ c κs. search needs) (λ c. search needs) (λ c κs. search needs) returns returns-2)

@@ -11,18 +11,6 @@ byte : (b : Bool) → boolByte b ≡ cond b 1 0
 byte true = refl
 byte false = refl
 
-enum-known-a : tie.Need-enum-known-a
-enum-known-a c = search needs
-
-cast-t5 : tie.Need-cast-t5
-cast-t5 c = search needs
-
-enum-known-a-2 : tie.Need-enum-known-a-2
-enum-known-a-2 c = search needs
-
-number-requires : tie.Need-number-requires
-number-requires c κs = search needs
-
 returns : tie.Need-returns
 returns c = rw (c .before .a .given .1, byte (c .before .a .given .0 .0))
 
@@ -31,4 +19,4 @@ returns-2 c = rw (c .before .before .a2 .given .1, c .number .ensures)
 
 pub change-result-spec : {M : Type 1} → statement M
 change-result-spec =
-    tie.close (tie.spec enum-known-a cast-t5 enum-known-a-2 number-requires returns returns-2)
+    tie.close (tie.spec (λ c. search needs) (λ c. search needs) (λ c. search needs) (λ c κs. search needs) returns returns-2)

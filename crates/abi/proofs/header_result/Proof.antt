@@ -3,15 +3,6 @@ use borrow.Author.Needs.{needs}
 use Rattle.abi.proofs.header_result.Statement.{statement}
 use Rattle.abi.proofs.header_result.Tie as tie
 
-enum-known-a : tie.Need-enum-known-a
-enum-known-a c = search needs
-
-enum-known-a-2 : tie.Need-enum-known-a-2
-enum-known-a-2 c = search needs
-
-number-requires : tie.Need-number-requires
-number-requires c κs = search needs
-
 returns : tie.Need-returns
 returns c = rw (c .before .a .given .1)
 
@@ -21,4 +12,4 @@ returns-2 c = rw (c .before .before .a2 .given .1, c .number .ensures)
 pub header-result-spec : {M : Type 1} → statement M
 header-result-spec =
     tie.close
-    (tie.spec enum-known-a enum-known-a-2 number-requires returns returns-2)
+    (tie.spec (λ c. search needs) (λ c. search needs) (λ c κs. search needs) returns returns-2)

@@ -11,24 +11,6 @@ use borrow.Author.Needs.{needs}
 use Rattle.bitwise.proofs.bitwise_not.Statement.{statement}
 use Rattle.bitwise.proofs.bitwise_not.Tie as tie
 
-check-vector-requires : tie.Need-check-vector-requires
-check-vector-requires c κs = search needs
-
-enum-known-r : tie.Need-enum-known-r
-enum-known-r c = search needs
-
-enum-told : tie.Need-enum-told
-enum-told c = search needs
-
-check-output-requires : tie.Need-check-output-requires
-check-output-requires c κs = search needs
-
-enum-known-r-2 : tie.Need-enum-known-r-2
-enum-known-r-2 c = search needs
-
-enum-told-2 : tie.Need-enum-told-2
-enum-told-2 c = search needs
-
 not-planes-requires : tie.Need-not-planes-requires
 unfolding checkOutput
 not-planes-requires c κs =
@@ -44,23 +26,11 @@ returns c =
     let t = c .before in
     simp (sym (t .before .before .check-vector .ensures) ∙ ap verdict (t .r .given .1))
 
-same-length : tie.Need-same-length
-same-length c = search needs
-
-same-length-2 : tie.Need-same-length-2
-same-length-2 c = search needs
-
 returns-2 : tie.Need-returns-2
 returns-2 c =
     let t2 = c .before in
     let t = t2 .before .before .before .before .before in
     simp (sym (t .before .before .check-vector .ensures) ∙ ap verdict (t .enum-told .given .1), sym (t2 .before .before .check-output .ensures) ∙ ap verdict (t2 .r2 .given .1))
-
-same-length-3 : tie.Need-same-length-3
-same-length-3 c = search needs
-
-same-length-4 : tie.Need-same-length-4
-same-length-4 c = search needs
 
 returns-3 : tie.Need-returns-3
 returns-3 c =
@@ -75,17 +45,17 @@ pub bitwise-not-spec : {M : Type 1} → statement M
 bitwise-not-spec =
     tie.close
     (tie.spec
-    check-vector-requires
-    enum-known-r
-    enum-told
-    check-output-requires
-    enum-known-r-2
-    enum-told-2
+    (λ c κs. search needs)
+    (λ c. search needs)
+    (λ c. search needs)
+    (λ c κs. search needs)
+    (λ c. search needs)
+    (λ c. search needs)
     not-planes-requires
     returns
-    same-length
-    same-length-2
+    (λ c. search needs)
+    (λ c. search needs)
     returns-2
-    same-length-3
-    same-length-4
+    (λ c. search needs)
+    (λ c. search needs)
     returns-3)

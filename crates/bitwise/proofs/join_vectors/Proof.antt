@@ -11,36 +11,6 @@ use borrow.Author.Needs.{needs}
 use Rattle.bitwise.proofs.join_vectors.Statement.{statement}
 use Rattle.bitwise.proofs.join_vectors.Tie as tie
 
-check-vector-requires : tie.Need-check-vector-requires
-check-vector-requires c κs = search needs
-
-enum-known-r : tie.Need-enum-known-r
-enum-known-r c = search needs
-
-enum-told : tie.Need-enum-told
-enum-told c = search needs
-
-check-vector-requires-2 : tie.Need-check-vector-requires-2
-check-vector-requires-2 c κs = search needs
-
-enum-known-r-2 : tie.Need-enum-known-r-2
-enum-known-r-2 c = search needs
-
-enum-told-2 : tie.Need-enum-told-2
-enum-told-2 c = search needs
-
-result-header-requires : tie.Need-result-header-requires
-result-header-requires c κs = search needs
-
-check-output-requires : tie.Need-check-output-requires
-check-output-requires c κs = search needs
-
-enum-known-r-3 : tie.Need-enum-known-r-3
-enum-known-r-3 c = search needs
-
-enum-told-3 : tie.Need-enum-told-3
-enum-told-3 c = search needs
-
 join-planes-requires : tie.Need-join-planes-requires
 unfolding checkOutput
 join-planes-requires c κs =
@@ -67,12 +37,6 @@ returns-2 c =
     let t1 = t .before .before .before in
     simp (sym (t1 .before .before .check-vector .ensures) ∙ ap verdict (t1 .enum-told .given .1), sym (t .before .before .check-vector2 .ensures) ∙ ap verdict (t .r2 .given .1))
 
-same-length : tie.Need-same-length
-same-length c = search needs
-
-same-length-2 : tie.Need-same-length-2
-same-length-2 c = search needs
-
 returns-3 : tie.Need-returns-3
 returns-3 c =
     let t3 = c .before in
@@ -81,12 +45,6 @@ returns-3 c =
     let t1 = t2 .before .before .before in
     let a = t1 .before .before .before .before .before .before .before .before .before .args in
     simp (sym (t1 .before .before .check-vector .ensures) ∙ ap verdict (t1 .enum-told .given .1), sym (t2 .before .before .check-vector2 .ensures) ∙ ap verdict (t2 .enum-told2 .given .1), sym (ap (λ (x : Header). checkOutput (x .width) (lent (a .ov .now) (a .ou .now))) (h .result-header .ensures)) ∙ sym (t3 .before .before .check-output .ensures) ∙ ap verdict (t3 .r3 .given .1))
-
-same-length-3 : tie.Need-same-length-3
-same-length-3 c = search needs
-
-same-length-4 : tie.Need-same-length-4
-same-length-4 c = search needs
 
 returns-4 : tie.Need-returns-4
 returns-4 c =
@@ -103,22 +61,22 @@ pub join-vectors-spec : {M : Type 1} → statement M
 join-vectors-spec =
     tie.close
     (tie.spec
-    check-vector-requires
-    enum-known-r
-    enum-told
-    check-vector-requires-2
-    enum-known-r-2
-    enum-told-2
-    result-header-requires
-    check-output-requires
-    enum-known-r-3
-    enum-told-3
+    (λ c κs. search needs)
+    (λ c. search needs)
+    (λ c. search needs)
+    (λ c κs. search needs)
+    (λ c. search needs)
+    (λ c. search needs)
+    (λ c κs. search needs)
+    (λ c κs. search needs)
+    (λ c. search needs)
+    (λ c. search needs)
     join-planes-requires
     returns
     returns-2
-    same-length
-    same-length-2
+    (λ c. search needs)
+    (λ c. search needs)
     returns-3
-    same-length-3
-    same-length-4
+    (λ c. search needs)
+    (λ c. search needs)
     returns-4)

@@ -9,15 +9,6 @@ use borrow.Author.Needs.{needs}
 use Rattle.constructors.proofs.from_u64.Statement.{statement}
 use Rattle.constructors.proofs.from_u64.Tie as tie
 
-construct-requires : tie.Need-construct-requires
-construct-requires c κs = search needs
-
-same-length : tie.Need-same-length
-same-length c = search needs
-
-same-length-2 : tie.Need-same-length-2
-same-length-2 c = search needs
-
 returns : tie.Need-returns
 returns c =
     let x = c .before .before .before .before in
@@ -26,4 +17,4 @@ returns c =
     x .construct .ensures ∙ ap (λ (f : ℕ → LogicBit). constructed (a .width) f (lent (a .value .now) (a .unknown .now))) (number (a .val) (s .fits .val .fits))
 
 pub from-u64-spec : {M : Type 1} → statement M
-from-u64-spec = tie.close (tie.spec construct-requires same-length same-length-2 returns)
+from-u64-spec = tie.close (tie.spec (λ c κs. search needs) (λ c. search needs) (λ c. search needs) returns)

@@ -10,15 +10,6 @@ use borrow.Author.Needs.{needs}
 use Rattle.constructors.proofs.new.Statement.{statement}
 use Rattle.constructors.proofs.new.Tie as tie
 
-construct-requires : tie.Need-construct-requires
-construct-requires c κs = search needs
-
-same-length : tie.Need-same-length
-same-length c = search needs
-
-same-length-2 : tie.Need-same-length-2
-same-length-2 c = search needs
-
 returns : tie.Need-returns
 returns c =
     let x = c .before .before .before .before in
@@ -26,4 +17,4 @@ returns c =
     x .construct .ensures ∙ ap (λ (f : ℕ → LogicBit). constructed (a .width) f (lent (a .value .now) (a .unknown .now))) (constant (0 ∷ []) (0 ∷ []) _)
 
 pub new-spec : {M : Type 1} → statement M
-new-spec = tie.close (tie.spec construct-requires same-length same-length-2 returns)
+new-spec = tie.close (tie.spec (λ c κs. search needs) (λ c. search needs) (λ c. search needs) returns)

@@ -24,9 +24,6 @@ module _ (d k : ℕ) (l : k < 64) where
   by-rest : (o : Ordering) → Cmp o (d % unit * 2) unit → wholeBy (d / unit) o ≡ wholeNear d (2 ^ k)
   by-rest o h = ap (wholeBy (d / unit)) (sym (compare-is o (d % unit * 2) unit h)) ∙ ap (wholeNear d) unit-is
 
-shl-unit : tie.Need-shl-unit
-shl-unit c = search needs
-
 div-whole : tie.Need-div-whole
 div-whole c = unit-pos (c .args .digits) (c .args .cut) (c .pre .1)
 
@@ -65,7 +62,7 @@ pub cut-near-spec : {M : Type 1} → statement M
 cut-near-spec =
     tie.close
     (tie.spec
-    shl-unit
+    (λ c. search needs)
     div-whole
     rem-double
     mul-double

@@ -26,18 +26,6 @@ module _ (x : Float) (w m : ℕ) (p : Planes) (narrow : w ≤ maxWidth) (e : m �
 returns : tie.Need-returns
 returns c = simp (lt-ltb maxWidth (c .before .before .before .args .width) (c .if1 .taken))
 
-at-least-one-requires : tie.Need-at-least-one-requires
-at-least-one-requires c κs = search needs
-
-check-output-requires : tie.Need-check-output-requires
-check-output-requires c κs = search needs
-
-enum-known-r : tie.Need-enum-known-r
-enum-known-r c = search needs
-
-enum-told : tie.Need-enum-told
-enum-told c = search needs
-
 write-real-requires : tie.Need-write-real-requires
 unfolding checkOutput
 write-real-requires c κs =
@@ -45,27 +33,12 @@ write-real-requires c κs =
     let a = t .before .before .before .before .before .before .before .before .before .args in
     exactly-accepted _ (lent (a .value .now) (a .unknown .now)) 5 (sym (t .before .before .check-output .ensures) ∙ ap verdict (t .enum-told .given .1))
 
-plain-header-requires : tie.Need-plain-header-requires
-plain-header-requires c κs = search needs
-
-same-length : tie.Need-same-length
-same-length c = search needs
-
-same-length-2 : tie.Need-same-length-2
-same-length-2 c = search needs
-
 returns-2 : tie.Need-returns-2
 returns-2 c =
     let t = c .before in
     let w = t .before .before .before .before .before in
     let a = w .before .before .before .before .args in
     sym (by-check (a .f) (a .width) (w .at-least-one .result) (lent (a .value .now) (a .unknown .now)) (w .before .if1 .left) (w .at-least-one .ensures) _ (sym (t .before .before .check-output .ensures) ∙ ap verdict (t .r .given .1)))
-
-same-length-3 : tie.Need-same-length-3
-same-length-3 c = search needs
-
-same-length-4 : tie.Need-same-length-4
-same-length-4 c = search needs
 
 returns-3 : tie.Need-returns-3
 returns-3 c =
@@ -81,15 +54,15 @@ from-real-wrapped-spec =
     tie.close
     (tie.spec
     returns
-    at-least-one-requires
-    check-output-requires
-    enum-known-r
-    enum-told
+    (λ c κs. search needs)
+    (λ c κs. search needs)
+    (λ c. search needs)
+    (λ c. search needs)
     write-real-requires
-    plain-header-requires
-    same-length
-    same-length-2
+    (λ c κs. search needs)
+    (λ c. search needs)
+    (λ c. search needs)
     returns-2
-    same-length-3
-    same-length-4
+    (λ c. search needs)
+    (λ c. search needs)
     returns-3)

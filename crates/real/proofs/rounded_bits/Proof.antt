@@ -67,9 +67,6 @@ returns-2 c = none (c .before .before .args .bits) (c .if2 .taken)
 returns-3 : tie.Need-returns-3
 returns-3 c = large (c .before .before .before .args .bits) (c .before .if2 .left) (c .if3 .taken)
 
-sub-cut-near : tie.Need-sub-cut-near
-sub-cut-near c = search needs
-
 cut-near-requires : tie.Need-cut-near-requires
 cut-near-requires c κs = omega (arith, fraction-lt (c .before .before .before .args .bits))
 
@@ -79,4 +76,4 @@ returns-4 c = middle (c .before .before .before .before .args .bits) (c .cut-nea
 pub rounded-bits-spec : {M : Type 1} → statement M
 rounded-bits-spec =
     tie.close
-    (tie.spec add-digits returns returns-2 returns-3 sub-cut-near cut-near-requires returns-4)
+    (tie.spec add-digits returns returns-2 returns-3 (λ c. search needs) cut-near-requires returns-4)

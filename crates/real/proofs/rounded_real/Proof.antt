@@ -28,9 +28,6 @@ returns c = nan-gives-0 (c .before .args .f) (c .if1 .taken)
 float-to-bits-rounded-bits : tie.Need-float-to-bits-rounded-bits
 float-to-bits-rounded-bits c = no-nan (c .before .args .f) (c .if1 .left)
 
-rounded-bits-requires : tie.Need-rounded-bits-requires
-rounded-bits-requires c κs = search needs
-
 returns-2 : tie.Need-returns-2
 returns-2 c =
     let s = c .before .before in
@@ -38,4 +35,4 @@ returns-2 c =
 
 pub rounded-real-spec : {M : Type 1} → statement M
 rounded-real-spec =
-    tie.close (tie.spec returns float-to-bits-rounded-bits rounded-bits-requires returns-2)
+    tie.close (tie.spec returns float-to-bits-rounded-bits (λ c κs. search needs) returns-2)

@@ -13,13 +13,10 @@ returns-2 c =
     let s = c .before .before in
     simp (not-false (s .args .negative) (c .before .if1 .left), not-true (s .args .zeros) (c .if2 .taken)) (omega arith)
 
-wrapping-add-u64-requires : tie.Need-wrapping-add-u64-requires
-wrapping-add-u64-requires c κs = search needs
-
 returns-3 : tie.Need-returns-3
 returns-3 c =
     let s = c .before .before .before in
     simp (not-false (s .args .negative) (c .before .before .if1 .left), not-false (s .args .zeros) (c .before .if2 .left)) (c .wrapping-add-u64 .ensures)
 
 pub signed-word-spec : {M : Type 1} → statement M
-signed-word-spec = tie.close (tie.spec returns returns-2 wrapping-add-u64-requires returns-3)
+signed-word-spec = tie.close (tie.spec returns returns-2 (λ c κs. search needs) returns-3)

@@ -28,23 +28,11 @@ module _ (d s a : ℕ) where
   under : d < 2 ^ 64 → s ≤ a → 64 ≤ a - s → 0 ≡ d * 2 ^ s / 2 ^ a % 2 ^ 64
   under f h g = sym (div-eq-of-lt (lt-of-lt-of-le f (pow-mono g))) ∙ down f h
 
-mul-at : tie.Need-mul-at
-mul-at c = search needs
-
-sub-left : tie.Need-sub-left
-sub-left c = search needs
-
-shl-result : tie.Need-shl-result
-shl-result c = search needs
-
 returns : tie.Need-returns
 returns c = let a = c .before .before .args in up (a .digits) (a .shift) (a .k * 64) (c .before .if1 .taken)
 
 returns-2 : tie.Need-returns-2
 returns-2 c = let a = c .before .before .args in above (a .digits) (a .shift) (a .k * 64) (c .before .if1 .taken) (c .if2 .left)
-
-shr-result : tie.Need-shr-result
-shr-result c = search needs
 
 returns-3 : tie.Need-returns-3
 returns-3 c =
@@ -59,4 +47,4 @@ returns-4 c =
 pub size-word-spec : {M : Type 1} → statement M
 size-word-spec =
     tie.close
-    (tie.spec mul-at sub-left shl-result returns returns-2 shr-result returns-3 returns-4)
+    (tie.spec (λ c. search needs) (λ c. search needs) (λ c. search needs) returns returns-2 (λ c. search needs) returns-3 returns-4)

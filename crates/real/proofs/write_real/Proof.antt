@@ -25,9 +25,6 @@ Inv-loop f width value₀ unknown₀ negative digits shift zeros₀ k₀ value u
 abbrev μ-loop : tie.MeasureT-loop
 μ-loop f width value₀ unknown₀ negative digits shift zeros₀ k₀ value unknown zeros k = length value₀ - k
 
-rounded-real-requires : tie.Need-rounded-real-requires Inv-loop μ-loop
-rounded-real-requires c κs = search needs
-
 loop-holds : tie.Need-loop-holds Inv-loop μ-loop
 loop-holds c =
     let r = c .rounded-real .result in
@@ -35,33 +32,6 @@ loop-holds c =
 
 size-word-requires : tie.Need-size-word-requires Inv-loop μ-loop
 size-word-requires c κs = omega arith
-
-kept-requires : tie.Need-kept-requires Inv-loop μ-loop
-kept-requires c κs = search needs
-
-ones-requires : tie.Need-ones-requires Inv-loop μ-loop
-ones-requires c κs = search needs
-
-signed-word-requires : tie.Need-signed-word-requires Inv-loop μ-loop
-signed-word-requires c κs = search needs
-
-mul-value : tie.Need-mul-value Inv-loop μ-loop
-mul-value c = search needs
-
-slice-write-value : tie.Need-slice-write-value Inv-loop μ-loop
-slice-write-value c = search needs
-
-mul-unknown : tie.Need-mul-unknown Inv-loop μ-loop
-mul-unknown c = search needs
-
-slice-write-unknown : tie.Need-slice-write-unknown Inv-loop μ-loop
-slice-write-unknown c = search needs
-
-add-k : tie.Need-add-k Inv-loop μ-loop
-add-k c = search needs
-
-loop-less : tie.Need-loop-less Inv-loop μ-loop
-loop-less c = search needs
 
 loop-again : tie.Need-loop-again Inv-loop μ-loop
 loop-again c =
@@ -82,12 +52,6 @@ loop-again c =
       more (l .loop .inv .3) (omega (arith, s .pre .0, s .pre .1)) (unknown-word (a .width) (a .f) k),
     )
 
-same-length : tie.Need-same-length Inv-loop μ-loop
-same-length c = search needs
-
-same-length-2 : tie.Need-same-length-2 Inv-loop μ-loop
-same-length-2 c = search needs
-
 returns : tie.Need-returns Inv-loop μ-loop
 returns c =
     let l = c .before in
@@ -103,19 +67,19 @@ write-real-spec =
     (tie.spec
     Inv-loop
     μ-loop
-    rounded-real-requires
+    (λ c κs. search needs)
     loop-holds
     size-word-requires
-    kept-requires
-    ones-requires
-    signed-word-requires
-    mul-value
-    slice-write-value
-    mul-unknown
-    slice-write-unknown
-    add-k
-    loop-less
+    (λ c κs. search needs)
+    (λ c κs. search needs)
+    (λ c κs. search needs)
+    (λ c. search needs)
+    (λ c. search needs)
+    (λ c. search needs)
+    (λ c. search needs)
+    (λ c. search needs)
+    (λ c. search needs)
     loop-again
-    same-length
-    same-length-2
+    (λ c. search needs)
+    (λ c. search needs)
     returns)

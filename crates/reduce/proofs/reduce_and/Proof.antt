@@ -6,15 +6,6 @@ use borrow.Author.Needs.{needs}
 use Rattle.reduce.proofs.reduce_and.Statement.{statement}
 use Rattle.reduce.proofs.reduce_and.Tie as tie
 
-check-vector-requires : tie.Need-check-vector-requires
-check-vector-requires c κs = search needs
-
-enum-known-r : tie.Need-enum-known-r
-enum-known-r c = search needs
-
-enum-told : tie.Need-enum-told
-enum-told c = search needs
-
 and-bits-requires : tie.Need-and-bits-requires
 and-bits-requires c κs =
     let h = vector-accepted _ _ (sym (c .before .before .check-vector .ensures) ∙ ap verdict (c .enum-told .given .1)) .planes in
@@ -33,4 +24,4 @@ returns-2 c =
 pub reduce-and-spec : {M : Type 1} → statement M
 reduce-and-spec =
     tie.close
-    (tie.spec check-vector-requires enum-known-r enum-told and-bits-requires returns returns-2)
+    (tie.spec (λ c κs. search needs) (λ c. search needs) (λ c. search needs) and-bits-requires returns returns-2)

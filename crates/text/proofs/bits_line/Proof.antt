@@ -57,9 +57,6 @@ Inv-loop s at key n i₀ left₀ t8 i left = (bs : List LogicBit) × (many bit n
 abbrev μ-loop : tie.MeasureT-loop
 μ-loop s at key n i₀ left₀ t8 i left = left
 
-skip-requires : tie.Need-skip-requires Inv-loop μ-loop
-skip-requires c κs = search needs
-
 loop-holds : tie.Need-loop-holds Inv-loop μ-loop
 loop-holds c = ([], behind-none _)
 
@@ -117,12 +114,6 @@ returns c =
       bits-other (s w) (l .loop .inv .0) (l .loop .i) m (fits w .1) (sym (bit-test (getD (s w) (l .loop .i) 0)) ∙ c .if1 .left),
     )
 
-slice-aggregate-skip : tie.Need-slice-aggregate-skip Inv-loop μ-loop
-slice-aggregate-skip c = search needs
-
-skip-requires-2 : tie.Need-skip-requires-2 Inv-loop μ-loop
-skip-requires-2 c κs = search needs
-
 returns-2 : tie.Need-returns-2 Inv-loop μ-loop
 returns-2 c =
     let l = c .before .before .before in
@@ -135,7 +126,7 @@ bits-line-spec =
     (tie.spec
     Inv-loop
     μ-loop
-    skip-requires
+    (λ c κs. search needs)
     loop-holds
     shared-slice-read-c
     add-i
@@ -143,6 +134,6 @@ bits-line-spec =
     loop-less
     loop-again
     returns
-    slice-aggregate-skip
-    skip-requires-2
+    (λ c. search needs)
+    (λ c κs. search needs)
     returns-2)

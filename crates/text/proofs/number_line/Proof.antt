@@ -33,9 +33,6 @@ line-read l =
     behind-key (t .args .s .now) short (t .args .key .now) (number (t .args .limit)) refl (t .args .at) (w .skip .result) (w .skip .ensures)
     ∙ l .loop .inv .3
 
-skip-requires : tie.Need-skip-requires Inv-loop μ-loop
-skip-requires c κs = search needs
-
 loop-holds : tie.Need-loop-holds Inv-loop μ-loop
 loop-holds c = let f : ℕ = c .skip .result in (omega arith, omega arith, λ e. refl, rw (le-ltb f f (omega arith)))
 
@@ -119,7 +116,7 @@ number-line-spec =
     (tie.spec
     Inv-loop
     μ-loop
-    skip-requires
+    (λ c κs. search needs)
     loop-holds
     shared-slice-read-c
     cast-t15

@@ -29,9 +29,6 @@ loop-holds : tie.Need-loop-holds Inv-loop μ-loop
 loop-holds c = (omega arith, omega arith, start refl, start refl)
 
 -- src/unchecked.rt:66:13
-least-requires : tie.Need-least-requires Inv-loop μ-loop
-least-requires c κs = search needs
-
 -- src/unchecked.rt:67:9
 sub-left : tie.Need-sub-left Inv-loop μ-loop
 sub-left c = omega arith
@@ -45,29 +42,11 @@ read-word-requires : tie.Need-read-word-requires Inv-loop μ-loop
 read-word-requires c κs = (omega arith, omega arith)
 
 -- src/unchecked.rt:69:9
-mul-value : tie.Need-mul-value Inv-loop μ-loop
-mul-value c = search needs
-
 -- src/unchecked.rt:69:9
-slice-write-value : tie.Need-slice-write-value Inv-loop μ-loop
-slice-write-value c = search needs
-
 -- src/unchecked.rt:70:9
-mul-unknown : tie.Need-mul-unknown Inv-loop μ-loop
-mul-unknown c = search needs
-
 -- src/unchecked.rt:70:9
-slice-write-unknown : tie.Need-slice-write-unknown Inv-loop μ-loop
-slice-write-unknown c = search needs
-
 -- src/unchecked.rt:71:9
-add-k : tie.Need-add-k Inv-loop μ-loop
-add-k c = search needs
-
 -- src/unchecked.rt:65:5
-loop-less : tie.Need-loop-less Inv-loop μ-loop
-loop-less c = search needs
-
 -- src/unchecked.rt:65:5
 loop-again : tie.Need-loop-again Inv-loop μ-loop
 loop-again c =
@@ -90,13 +69,7 @@ loop-again c =
     )
 
 -- src/unchecked.rt:58:1
-same-length : tie.Need-same-length Inv-loop μ-loop
-same-length c = search needs
-
 -- src/unchecked.rt:58:1
-same-length-2 : tie.Need-same-length-2 Inv-loop μ-loop
-same-length-2 c = search needs
-
 -- src/unchecked.rt:58:1
 returns : tie.Need-returns Inv-loop μ-loop
 returns c =
@@ -115,17 +88,17 @@ fill-planes-spec =
     Inv-loop
     μ-loop
     loop-holds
-    least-requires
+    (λ c κs. search needs)
     sub-left
     add-read-word
     read-word-requires
-    mul-value
-    slice-write-value
-    mul-unknown
-    slice-write-unknown
-    add-k
-    loop-less
+    (λ c. search needs)
+    (λ c. search needs)
+    (λ c. search needs)
+    (λ c. search needs)
+    (λ c. search needs)
+    (λ c. search needs)
     loop-again
-    same-length
-    same-length-2
+    (λ c. search needs)
+    (λ c. search needs)
     returns)

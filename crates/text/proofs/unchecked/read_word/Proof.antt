@@ -39,9 +39,6 @@ mul-value c =
     let b = small valueDigit value-digit-lt (a .s .now) (a .from) (l .loop .j) (omega arith) in
     omega arith
 
-cast-value : tie.Need-cast-value Inv-loop μ-loop
-cast-value c = search needs
-
 add-value : tie.Need-add-value Inv-loop μ-loop
 add-value c =
     let l = c .before .before in
@@ -55,9 +52,6 @@ mul-unknown c =
     let a = l .before .args in
     let b = small unknownDigit unknown-digit-lt (a .s .now) (a .from) (l .loop .j) (omega arith) in
     omega arith
-
-cast-unknown : tie.Need-cast-unknown Inv-loop μ-loop
-cast-unknown c = search needs
 
 add-unknown : tie.Need-add-unknown Inv-loop μ-loop
 add-unknown c =
@@ -104,10 +98,10 @@ read-word-spec =
     add-c
     shared-slice-read-c
     mul-value
-    cast-value
+    (λ c. search needs)
     add-value
     mul-unknown
-    cast-unknown
+    (λ c. search needs)
     add-unknown
     add-j
     loop-less
