@@ -1,17 +1,21 @@
--- What the checks of planes, of a vector and of a pair say where they accept.
-use mathlib.Core.Path.{_≡_, refl, sym, subst}
+-- What a check answers where its verdict was told, and what the checks of planes, of a vector and of a pair say where they accept.
+use mathlib.Core.Path.{_≡_, refl, sym, ap, _∙_, subst}
 use mathlib.Core.Bool.{Bool, true, false, _&&_, cond}
 use Prim.Native.Nat.{ℕ, _≤_}
 use native.Mathlib.Omega.{arith}
 use borrow.Author.Tests.{ltb-false, eqb-true, eqb-false}
 use lib.Dec.{T, eqb, ltb}
 use lib.ListN.{length}
-use Rattle.refusal.specs.Outcome.{Answer, after}
+use Rattle.refusal.specs.declared.Verdict.{Verdict}
+use Rattle.refusal.specs.Outcome.{Answer, after, verdict}
 use Rattle.refusal.specs.Outcome.Answer.{given, refused}
 use Rattle.words.specs.Planes.{wordCount, clearAbove, Plane, Planes}
 use Rattle.words.proofs.Top.{all-clear}
 use Rattle.value.specs.declared.Header.{Header}
 use Rattle.value.specs.Checks.{maxWidth, exactly, checkLengths, checkPlanes, checkVector, checkPair}
+
+pub verdict-told : {v w : Verdict} {a : Answer Unit} → verdict v ≡ a → v ≡ w → a ≡ verdict w
+verdict-told e t = sym e ∙ ap verdict t
 
 pub exactly-accepted : (n : ℕ) (p : Planes) (k : ℕ) → exactly n p k ≡ given tt → (length (p .value) ≡ n) × (length (p .unknown) ≡ n)
 exactly-accepted n p k h = go (eqb (length (p .value)) n) refl (eqb (length (p .unknown)) n) refl h

@@ -4,8 +4,8 @@ use Rattle.words.specs.Planes.{fromPlanes, Planes, planesOf}
 use Rattle.bits.specs.Bits.{spliced}
 use Rattle.bits.proofs.Splice.{set-spliced}
 use mathlib.Core.Path.{sym, ap, _∙_}
-use Rattle.refusal.specs.Outcome.{outcome, verdict}
-use Rattle.value.proofs.Checks.{planes-accepted}
+use Rattle.refusal.specs.Outcome.{outcome}
+use Rattle.value.proofs.Checks.{verdict-told, planes-accepted}
 use borrow.Author.Needs.{needs}
 use Rattle.planes.proofs.set.Statement.{statement}
 use Rattle.planes.proofs.set.Tie as tie
@@ -13,13 +13,13 @@ use Rattle.planes.proofs.set.Tie as tie
 splice64-requires : tie.Need-splice64-requires
 splice64-requires c κs =
     let t = c .before .before .before in
-    let h = planes-accepted _ _ (sym (t .before .before .check-planes .ensures) ∙ ap verdict (t .enum-told .given .1)) in
+    let h = planes-accepted _ _ (verdict-told (t .before .before .check-planes .ensures) (t .enum-told .given .1)) in
     (h .value-plane, h .unknown-plane)
 
 returns : tie.Need-returns
 returns c =
     let t = c .before in
-    simp (sym (t .before .before .check-planes .ensures) ∙ ap verdict (t .r .given .1))
+    simp (verdict-told (t .before .before .check-planes .ensures) (t .r .given .1))
 
 returns-2 : tie.Need-returns-2
 returns-2 c =
@@ -28,7 +28,7 @@ returns-2 c =
     let t = f .before in
     let a = t .before .before .before .before .before .before .before .args in
     let bs = fromPlanes (a .width) (a .value .now) (a .unknown .now) in
-    simp (sym (t .before .before .check-planes .ensures) ∙ ap verdict (t .enum-told .given .1))
+    simp (verdict-told (t .before .before .check-planes .ensures) (t .enum-told .given .1))
     (ap (λ (p : Planes). outcome {A = Unit} (given tt) p)
     (x .splice64 .ensures ∙ ap planesOf (ap (spliced bs (a .i) 1) (f .filled .ensures) ∙ sym (set-spliced bs (a .i) (a .bit)))))
 

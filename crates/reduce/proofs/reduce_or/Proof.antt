@@ -1,25 +1,19 @@
 -- `reduce::reduce_or`: refused as checked, else by the inner function.
-use mathlib.Core.Path.{sym, ap, _∙_}
-use Rattle.refusal.specs.Outcome.{verdict}
-use Rattle.value.proofs.Checks.{vector-accepted}
+use Rattle.value.proofs.Checks.{verdict-told, vector-accepted}
 use borrow.Author.Needs.{needs}
 use Rattle.reduce.proofs.reduce_or.Statement.{statement}
 use Rattle.reduce.proofs.reduce_or.Tie as tie
 
 or-bits-requires : tie.Need-or-bits-requires
 or-bits-requires c κs =
-    let h = vector-accepted _ _ (sym (c .before .before .check-vector .ensures) ∙ ap verdict (c .enum-told .given .1)) .planes in
+    let h = vector-accepted _ _ (verdict-told (c .before .before .check-vector .ensures) (c .enum-told .given .1)) .planes in
     (h .value-plane, h .unknown-plane)
 
 returns : tie.Need-returns
-returns c =
-    let t = c .before in
-    simp (sym (t .before .before .check-vector .ensures) ∙ ap verdict (t .r .given .1))
+returns c = simp (verdict-told (c .before .before .before .check-vector .ensures) (c .before .r .given .1))
 
 returns-2 : tie.Need-returns-2
-returns-2 c =
-    let t = c .before in
-    simp (sym (t .before .before .check-vector .ensures) ∙ ap verdict (t .enum-told .given .1), c .or-bits .ensures)
+returns-2 c = simp (verdict-told (c .before .before .before .check-vector .ensures) (c .before .enum-told .given .1), c .or-bits .ensures)
 
 pub reduce-or-spec : {M : Type 1} → statement M
 reduce-or-spec =

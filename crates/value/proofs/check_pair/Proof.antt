@@ -1,6 +1,5 @@
 -- `value::check_pair`: the left operand's check decides, else the right one's.
-use mathlib.Core.Path.{sym, ap, _∙_}
-use Rattle.refusal.specs.Outcome.{verdict}
+use Rattle.value.proofs.Checks.{verdict-told}
 use borrow.Author.Needs.{needs}
 use Rattle.value.proofs.check_pair.Statement.{statement}
 use Rattle.value.proofs.check_pair.Tie as tie
@@ -20,12 +19,12 @@ check-vector-requires-2 c κs = search needs
 returns : tie.Need-returns
 returns c =
     let t = c .before in
-    simp (sym (t .before .before .check-vector .ensures) ∙ ap verdict (t .r .given .1))
+    simp (verdict-told (t .before .before .check-vector .ensures) (t .r .given .1))
 
 returns-2 : tie.Need-returns-2
 returns-2 c =
     let t = c .before in
-    simp (sym (t .before .before .check-vector .ensures) ∙ ap verdict (t .enum-told .given .1), c .check-vector2 .ensures)
+    simp (verdict-told (t .before .before .check-vector .ensures) (t .enum-told .given .1), c .check-vector2 .ensures)
 
 pub check-pair-spec : {M : Type 1} → statement M
 check-pair-spec =

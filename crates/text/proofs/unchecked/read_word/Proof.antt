@@ -1,9 +1,10 @@
 -- `text::unchecked::read_word`: value and unknown are the numbers of the characters read.
 use mathlib.Core.Path.{_≡_, refl, ap, ap₂, _∙_}
 use mathlib.Core.List.{List}
-use Prim.Native.Nat.{ℕ, _+_, _-_, _*_, _≤_}
+use Prim.Native.Nat.{ℕ, _+_, _-_, _*_, _^_, _≤_, _<_}
 use native.Mathlib.Omega.{arith}
 use lib.ListN.{getD}
+use Rattle.bit.specs.declared.LogicBit.{LogicBit}
 use Rattle.words.specs.Planes.{valueDigit, unknownDigit}
 use Rattle.words.proofs.Planes.{value-digit-lt, unknown-digit-lt}
 use Rattle.text.specs.Read.{ofByte}
@@ -26,45 +27,26 @@ byte l = let a = l .before .args in getD (a .s .now) (a .from + l .loop .j) 0
 loop-holds : tie.Need-loop-holds Inv-loop μ-loop
 loop-holds c = (omega arith, none valueDigit _ _, none unknownDigit _ _)
 
-add-c : tie.Need-add-c Inv-loop μ-loop
-add-c c = omega arith
-
-shared-slice-read-c : tie.Need-shared-slice-read-c Inv-loop μ-loop
-shared-slice-read-c c = omega arith
+-- there is room for one more digit
+room : (d : LogicBit → ℕ) → ((b : LogicBit) → d b < 2) → (l : tie.At-loop Inv-loop μ-loop) → l .loop .j ≤ 63
+    → numberIn d (l .before .args .s .now) (l .before .args .from) (l .loop .j) < 2 ^ 63
+room d lt l h = small d lt (l .before .args .s .now) (l .before .args .from) (l .loop .j) h
 
 mul-value : tie.Need-mul-value Inv-loop μ-loop
-mul-value c =
-    let l = c .before .before in
-    let a = l .before .args in
-    let b = small valueDigit value-digit-lt (a .s .now) (a .from) (l .loop .j) (omega arith) in
-    omega arith
+mul-value c = omega (arith, room valueDigit value-digit-lt (c .before .before) (omega arith))
 
 add-value : tie.Need-add-value Inv-loop μ-loop
 add-value c =
     let l = c .before .before in
-    let a = l .before .args in
-    let b = small valueDigit value-digit-lt (a .s .now) (a .from) (l .loop .j) (omega arith) in
-    omega (arith, b, byte-value (byte l), value-digit-lt (ofByte (byte l)))
+    omega (arith, room valueDigit value-digit-lt l (omega arith), byte-value (byte l), value-digit-lt (ofByte (byte l)))
 
 mul-unknown : tie.Need-mul-unknown Inv-loop μ-loop
-mul-unknown c =
-    let l = c .before .before in
-    let a = l .before .args in
-    let b = small unknownDigit unknown-digit-lt (a .s .now) (a .from) (l .loop .j) (omega arith) in
-    omega arith
+mul-unknown c = omega (arith, room unknownDigit unknown-digit-lt (c .before .before) (omega arith))
 
 add-unknown : tie.Need-add-unknown Inv-loop μ-loop
 add-unknown c =
     let l = c .before .before in
-    let a = l .before .args in
-    let b = small unknownDigit unknown-digit-lt (a .s .now) (a .from) (l .loop .j) (omega arith) in
-    omega (arith, b, byte-unknown (byte l), unknown-digit-lt (ofByte (byte l)))
-
-add-j : tie.Need-add-j Inv-loop μ-loop
-add-j c = omega arith
-
-loop-less : tie.Need-loop-less Inv-loop μ-loop
-loop-less c = omega arith
+    omega (arith, room unknownDigit unknown-digit-lt l (omega arith), byte-unknown (byte l), unknown-digit-lt (ofByte (byte l)))
 
 loop-again : tie.Need-loop-again Inv-loop μ-loop
 loop-again c =
@@ -95,15 +77,15 @@ read-word-spec =
     Inv-loop
     μ-loop
     loop-holds
-    add-c
-    shared-slice-read-c
+    (λ c. omega arith)
+    (λ c. omega arith)
     mul-value
     (λ c. search needs)
     add-value
     mul-unknown
     (λ c. search needs)
     add-unknown
-    add-j
-    loop-less
+    (λ c. omega arith)
+    (λ c. omega arith)
     loop-again
     returns)
