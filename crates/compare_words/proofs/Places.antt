@@ -31,33 +31,27 @@ use Rattle.compare_words.specs.Compared.{operator, mismatch, unsure, onP
 abbrev pub zeros : LogicBit × LogicBit
 zeros = (Zero, Zero)
 
-pub zero-apart : (op : Comparison) → mismatch op Zero Zero ≡ false
-zero-apart Equal = refl
-zero-apart CaseEqual = refl
-zero-apart CasezEqual = refl
-zero-apart CasexEqual = refl
-zero-apart WildcardEqual = refl
+-- two zeros, and two ones
+alike : (op : Comparison)
+    → (mismatch op Zero Zero ≡ false) × (unsure op Zero Zero ≡ false) × (mismatch op One One ≡ false) × (unsure op One One ≡ false)
+alike Equal = (refl, refl, refl, refl)
+alike CaseEqual = (refl, refl, refl, refl)
+alike CasezEqual = (refl, refl, refl, refl)
+alike CasexEqual = (refl, refl, refl, refl)
+alike WildcardEqual = (refl, refl, refl, refl)
 
-pub zero-unsure : (op : Comparison) → unsure op Zero Zero ≡ false
-zero-unsure Equal = refl
-zero-unsure CaseEqual = refl
-zero-unsure CasezEqual = refl
-zero-unsure CasexEqual = refl
-zero-unsure WildcardEqual = refl
+module _ (op : Comparison) where
+  pub zero-apart : mismatch op Zero Zero ≡ false
+  zero-apart = alike op .0
 
-pub one-apart : (op : Comparison) → mismatch op One One ≡ false
-one-apart Equal = refl
-one-apart CaseEqual = refl
-one-apart CasezEqual = refl
-one-apart CasexEqual = refl
-one-apart WildcardEqual = refl
+  pub zero-unsure : unsure op Zero Zero ≡ false
+  zero-unsure = alike op .1
 
-pub one-unsure : (op : Comparison) → unsure op One One ≡ false
-one-unsure Equal = refl
-one-unsure CaseEqual = refl
-one-unsure CasezEqual = refl
-one-unsure CasexEqual = refl
-one-unsure WildcardEqual = refl
+  pub one-apart : mismatch op One One ≡ false
+  one-apart = alike op .2
+
+  pub one-unsure : unsure op One One ≡ false
+  one-unsure = alike op .3
 
 -- ---- what a scan finds
 

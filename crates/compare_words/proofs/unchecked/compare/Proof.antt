@@ -12,18 +12,6 @@ use Rattle.compare_words.proofs.Places.{answer-found}
 use Rattle.compare_words.proofs.unchecked.compare.Statement.{statement}
 use Rattle.compare_words.proofs.unchecked.compare.Tie as tie
 
-operator-requires : tie.Need-operator-requires
-operator-requires c κs = search needs
-
-extent-requires : tie.Need-extent-requires
-extent-requires c κs = search needs
-
-extent-requires-2 : tie.Need-extent-requires-2
-extent-requires-2 c κs = search needs
-
-larger-requires : tie.Need-larger-requires
-larger-requires c κs = search needs
-
 scan-extents-requires : tie.Need-scan-extents-requires
 scan-extents-requires c κs =
     let y = c .before in
@@ -37,9 +25,6 @@ scan-extents-requires c κs =
       ((long _ _ _ hx (p .0 .0 .count), long _ _ _ hx (p .0 .1 .count)), (long _ _ _ hy (p .1 .0 .count), long _ _ _ hy (p .1 .1 .count))),
       (omega (arith, hx, c .larger .ensures), omega (arith, hy, c .larger .ensures)),
     )
-
-found-bit-requires : tie.Need-found-bit-requires
-found-bit-requires c κs = search needs
 
 returns : tie.Need-returns
 returns c =
@@ -57,10 +42,10 @@ pub compare-spec : {M : Type 1} → statement M
 compare-spec =
     tie.close
     (tie.spec
-    operator-requires
-    extent-requires
-    extent-requires-2
-    larger-requires
+    (λ c κs. search needs)
+    (λ c κs. search needs)
+    (λ c κs. search needs)
+    (λ c κs. search needs)
     scan-extents-requires
-    found-bit-requires
+    (λ c κs. search needs)
     returns)

@@ -5,12 +5,6 @@ use borrow.Author.Needs.{needs}
 use Rattle.compare_words.proofs.unchecked.compare_words.Statement.{statement}
 use Rattle.compare_words.proofs.unchecked.compare_words.Tie as tie
 
-lane-marks-requires : tie.Need-lane-marks-requires
-lane-marks-requires c κs = search needs
-
-ones-requires : tie.Need-ones-requires
-ones-requires c κs = search needs
-
 returns : tie.Need-returns
 returns c =
     let o = c .before .before in
@@ -35,4 +29,4 @@ returns-3 c =
     simp (eq-eqb _ _ (e .if1 .left), ne-eqb _ _ (c .if2 .left)) at (one-word (a .width) (s .pre) (a .a) (a .b) (a .op) _ (o .before .lane-marks .ensures) _ (o .ones .ensures))
 
 pub compare-words-spec : {M : Type 1} → statement M
-compare-words-spec = tie.close (tie.spec lane-marks-requires ones-requires returns returns-2 returns-3)
+compare-words-spec = tie.close (tie.spec (λ c κs. search needs) (λ c κs. search needs) returns returns-2 returns-3)

@@ -7,21 +7,6 @@ use borrow.Author.Needs.{needs}
 use Rattle.compare_words.proofs.unchecked.lane_marks.Statement.{statement}
 use Rattle.compare_words.proofs.unchecked.lane_marks.Tie as tie
 
-enum-told : tie.Need-enum-told
-enum-told c = search needs
-
-enum-told-2 : tie.Need-enum-told-2
-enum-told-2 c = search needs
-
-enum-told-3 : tie.Need-enum-told-3
-enum-told-3 c = search needs
-
-enum-told-4 : tie.Need-enum-told-4
-enum-told-4 c = search needs
-
-enum-told-5 : tie.Need-enum-told-5
-enum-told-5 c = search needs
-
 abbrev differ : Lane
 differ = and (xor av bv) (neg (or au bu))
 
@@ -57,11 +42,11 @@ pub lane-marks-spec : {M : Type 1} → statement M
 lane-marks-spec =
     tie.close
     (tie.spec
-    enum-told
-    enum-told-2
-    enum-told-3
-    enum-told-4
-    enum-told-5
+    (λ c. search needs)
+    (λ c. search needs)
+    (λ c. search needs)
+    (λ c. search needs)
+    (λ c. search needs)
     returns
     returns-2
     returns-3

@@ -11,48 +11,6 @@ use Rattle.compare_words.proofs.Words.{marksBy, whole-marks}
 use Rattle.compare_words.proofs.unchecked.marks_at.Statement.{statement}
 use Rattle.compare_words.proofs.unchecked.marks_at.Tie as tie
 
-mul-t21 : tie.Need-mul-t21
-mul-t21 c = search needs
-
-shared-slice-read-t23 : tie.Need-shared-slice-read-t23
-shared-slice-read-t23 c = search needs
-
-mul-t24 : tie.Need-mul-t24
-mul-t24 c = search needs
-
-shared-slice-read-t26 : tie.Need-shared-slice-read-t26
-shared-slice-read-t26 c = search needs
-
-mul-t21-2 : tie.Need-mul-t21-2
-mul-t21-2 c = search needs
-
-shared-slice-read-t26-2 : tie.Need-shared-slice-read-t26-2
-shared-slice-read-t26-2 c = search needs
-
-mul-t24-2 : tie.Need-mul-t24-2
-mul-t24-2 c = search needs
-
-shared-slice-read-t23-2 : tie.Need-shared-slice-read-t23-2
-shared-slice-read-t23-2 c = search needs
-
-lane-marks-requires : tie.Need-lane-marks-requires
-lane-marks-requires c κs = search needs
-
-operand-word-requires : tie.Need-operand-word-requires
-operand-word-requires c κs = search needs
-
-operand-word-requires-2 : tie.Need-operand-word-requires-2
-operand-word-requires-2 c κs = search needs
-
-lane-marks-requires-2 : tie.Need-lane-marks-requires-2
-lane-marks-requires-2 c κs = search needs
-
-kept-requires : tie.Need-kept-requires
-kept-requires c κs = search needs
-
-ones-requires : tie.Need-ones-requires
-ones-requires c κs = search needs
-
 returns : tie.Need-returns
 returns c =
     let t = c .before .before .before .before .before in
@@ -79,19 +37,19 @@ pub marks-at-spec : {M : Type 1} → statement M
 marks-at-spec =
     tie.close
     (tie.spec
-    mul-t21
-    shared-slice-read-t23
-    mul-t24
-    shared-slice-read-t26
-    mul-t21-2
-    shared-slice-read-t26-2
-    mul-t24-2
-    shared-slice-read-t23-2
-    lane-marks-requires
-    operand-word-requires
-    operand-word-requires-2
-    lane-marks-requires-2
-    kept-requires
-    ones-requires
+    (λ c. search needs)
+    (λ c. search needs)
+    (λ c. search needs)
+    (λ c. search needs)
+    (λ c. search needs)
+    (λ c. search needs)
+    (λ c. search needs)
+    (λ c. search needs)
+    (λ c κs. search needs)
+    (λ c κs. search needs)
+    (λ c κs. search needs)
+    (λ c κs. search needs)
+    (λ c κs. search needs)
+    (λ c κs. search needs)
     returns
     returns-2)

@@ -26,44 +26,8 @@ abbrev μ-loop : tie.MeasureT-loop
 loop-holds : tie.Need-loop-holds Inv-loop2 μ-loop2 Inv-loop μ-loop
 loop-holds c = (omega arith, λ i l. absurd (omega arith))
 
-sub-loop : tie.Need-sub-loop Inv-loop2 μ-loop2 Inv-loop μ-loop
-sub-loop c = search needs
-
 loop2-holds : tie.Need-loop2-holds Inv-loop2 μ-loop2 Inv-loop μ-loop
 loop2-holds c = (omega arith, λ z i l. c .before .loop .inv .1 i (omega arith))
-
-add-i : tie.Need-add-i Inv-loop2 μ-loop2 Inv-loop μ-loop
-add-i c = search needs
-
-mul-m : tie.Need-mul-m Inv-loop2 μ-loop2 Inv-loop μ-loop
-mul-m c = search needs
-
-shared-slice-read-m : tie.Need-shared-slice-read-m Inv-loop2 μ-loop2 Inv-loop μ-loop
-shared-slice-read-m c = search needs
-
-mul-m-2 : tie.Need-mul-m-2 Inv-loop2 μ-loop2 Inv-loop μ-loop
-mul-m-2 c = search needs
-
-shared-slice-read-m-2 : tie.Need-shared-slice-read-m-2 Inv-loop2 μ-loop2 Inv-loop μ-loop
-shared-slice-read-m-2 c = search needs
-
-mul-m-3 : tie.Need-mul-m-3 Inv-loop2 μ-loop2 Inv-loop μ-loop
-mul-m-3 c = search needs
-
-shared-slice-read-m-3 : tie.Need-shared-slice-read-m-3 Inv-loop2 μ-loop2 Inv-loop μ-loop
-shared-slice-read-m-3 c = search needs
-
-mul-m-4 : tie.Need-mul-m-4 Inv-loop2 μ-loop2 Inv-loop μ-loop
-mul-m-4 c = search needs
-
-shared-slice-read-m-4 : tie.Need-shared-slice-read-m-4 Inv-loop2 μ-loop2 Inv-loop μ-loop
-shared-slice-read-m-4 c = search needs
-
-add-j : tie.Need-add-j Inv-loop2 μ-loop2 Inv-loop μ-loop
-add-j c = search needs
-
-loop2-less : tie.Need-loop2-less Inv-loop2 μ-loop2 Inv-loop μ-loop
-loop2-less c = search needs
 
 loop2-again : tie.Need-loop2-again Inv-loop2 μ-loop2 Inv-loop μ-loop
 loop2-again c =
@@ -82,12 +46,6 @@ loop2-again c =
 returns : tie.Need-returns Inv-loop2 μ-loop2 Inv-loop μ-loop
 returns c = c .before .before .before .before .loop .inv
 
-add-k : tie.Need-add-k Inv-loop2 μ-loop2 Inv-loop μ-loop
-add-k c = search needs
-
-loop-less : tie.Need-loop-less Inv-loop2 μ-loop2 Inv-loop μ-loop
-loop-less c = search needs
-
 loop-again : tie.Need-loop-again Inv-loop2 μ-loop2 Inv-loop μ-loop
 loop-again c =
     let l = c .before .before in
@@ -105,22 +63,22 @@ pass-same-spec =
     Inv-loop
     μ-loop
     loop-holds
-    sub-loop
+    (λ c. search needs)
     loop2-holds
-    add-i
-    mul-m
-    shared-slice-read-m
-    mul-m-2
-    shared-slice-read-m-2
-    mul-m-3
-    shared-slice-read-m-3
-    mul-m-4
-    shared-slice-read-m-4
-    add-j
-    loop2-less
+    (λ c. search needs)
+    (λ c. search needs)
+    (λ c. search needs)
+    (λ c. search needs)
+    (λ c. search needs)
+    (λ c. search needs)
+    (λ c. search needs)
+    (λ c. search needs)
+    (λ c. search needs)
+    (λ c. search needs)
+    (λ c. search needs)
     loop2-again
     returns
-    add-k
-    loop-less
+    (λ c. search needs)
+    (λ c. search needs)
     loop-again
     returns-2)

@@ -46,18 +46,6 @@ module _ (c : tie.In-loop Inv-loop μ-loop Inv-words μ-words) where
   lies : c .before .loop .j < 64
   lies = few (c .before .loop .bits) (c .before .loop .j) 64 (c .loop-test .taken) (c .before .loop .inv .1)
 
-cast-least : tie.Need-cast-least Inv-loop μ-loop Inv-words μ-words
-cast-least c = search needs
-
-cast-least-2 : tie.Need-cast-least-2 Inv-loop μ-loop Inv-words μ-words
-cast-least-2 c = search needs
-
-least-requires : tie.Need-least-requires Inv-loop μ-loop Inv-words μ-words
-least-requires c κs = search needs
-
-word-count-requires : tie.Need-word-count-requires Inv-loop μ-loop Inv-words μ-words
-word-count-requires c κs = search needs
-
 pass-same-requires : tie.Need-pass-same-requires Inv-loop μ-loop Inv-words μ-words
 pass-same-requires c κs =
     let m = c .before in
@@ -107,20 +95,11 @@ loop-holds c = (search needs, search needs)
 add-j : tie.Need-add-j Inv-loop μ-loop Inv-words μ-words
 add-j c = omega (arith, lies (c .before))
 
-loop-less : tie.Need-loop-less Inv-loop μ-loop Inv-words μ-words
-loop-less c = search needs
-
 loop-again : tie.Need-loop-again Inv-loop μ-loop Inv-words μ-words
 loop-again c =
     let l = c .before .before .loop in
     let h = halved (l .bits) (l .j) (omega arith) in
     (l .inv .0 ∙ h, rw (sym h) (l .inv .1))
-
-add-k : tie.Need-add-k Inv-loop μ-loop Inv-words μ-words
-add-k c = search needs
-
-words-less : tie.Need-words-less Inv-loop μ-loop Inv-words μ-words
-words-less c = search needs
 
 words-again : tie.Need-words-again Inv-loop μ-loop Inv-words μ-words
 words-again c =
@@ -133,9 +112,6 @@ words-again c =
     let k = l .words .k in
     next (a .op) f g (a .width) k (wordAt f k) (wordAt g k) (word-bit f k) (word-bit g k) _ (m .marks-at .ensures) (l .words .doubt) (l .words .inv)
     (b .before .loop .inv .0 ∙ ap (λ (n : ℕ). n * 2 ^ b .before .loop .j) (b .loop-test .left) ∙ zero-mul _)
-
-mul-t16 : tie.Need-mul-t16 Inv-loop μ-loop Inv-words μ-words
-mul-t16 c = search needs
 
 add-t17 : tie.Need-add-t17 Inv-loop μ-loop Inv-words μ-words
 add-t17 c = omega (arith, lies (c .before))
@@ -163,10 +139,10 @@ scan-extents-spec =
     μ-loop
     Inv-words
     μ-words
-    cast-least
-    cast-least-2
-    least-requires
-    word-count-requires
+    (λ c. search needs)
+    (λ c. search needs)
+    (λ c κs. search needs)
+    (λ c κs. search needs)
     pass-same-requires
     words-holds
     returns
@@ -174,12 +150,12 @@ scan-extents-spec =
     marks-at-requires
     loop-holds
     add-j
-    loop-less
+    (λ c. search needs)
     loop-again
-    add-k
-    words-less
+    (λ c. search needs)
+    (λ c. search needs)
     words-again
-    mul-t16
+    (λ c. search needs)
     add-t17
     cast-t24
     returns-3)
