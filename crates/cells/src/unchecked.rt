@@ -1,4 +1,4 @@
-// A cell's words and their check, words copied into an arena, and the cells that a step names. Most of these ask their caller for what a
+// A cell's words and their check, and the cells that a step names. Most of these ask their caller for what a
 // check has found.
 use crate::Cell;
 use crate::Operands;
@@ -12,9 +12,8 @@ use words::word_count;
 use work::unchecked::work;
 ghost use mathlib.Core.Path.{_≡_};
 ghost use mathlib.Core.Bool.{true, false};
-ghost use mathlib.Core.List.{_++_};
 ghost use Prim.Native.Nat.{_≤_, _+_};
-ghost use lib.ListN.{length, take, drop};
+ghost use lib.ListN.{length};
 ghost use Rattle.words.specs.Planes.{wordCount, lentBy, planesOf};
 ghost use Rattle.ops.specs.Ops.{armsRefused, opHeader};
 ghost use Rattle.cells.specs.Cells.{cellWords, span, cellAgrees, putPlanes, opCells, named};
@@ -45,18 +44,6 @@ pub fn cell_agrees(c: Cell, at: usize, value: &[u64], unknown: &[u64]) -> bool
             Verdict::Refused(_) => false,
             Verdict::Accepted => true,
         }
-    }
-}
-
-// Copies the first n words of a plane to the front of another, whose further words stay.
-pub fn copy_front(plane: &mut [u64], from: &[u64], n: usize)
-    requires { ⌜ (n ≤ length (now from)) × (n ≤ length (now plane)) ⌝ }
-    ensures { λ _. ⌜ now (plane .exit) ≡ take n (now (from .entry)) ++ drop n (now (plane .entry)) ⌝ }
-{
-    let mut k = 0;
-    while k < n {
-        plane[k] = from[k];
-        k += 1;
     }
 }
 

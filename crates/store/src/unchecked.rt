@@ -1,8 +1,8 @@
 // A cell put behind the last.
 use crate::Store;
 use cells::Cell;
-use cells::unchecked::copy_front;
 use value::Header;
+use words::unchecked::copy_front;
 use words::word_count;
 ghost use mathlib.Core.Path.{_≡_};
 ghost use Prim.Native.Nat.{_≤_, _<_, _+_};

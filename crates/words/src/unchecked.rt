@@ -1,4 +1,4 @@
-// The words of planes: masks, the word of an operand that continues beyond its width, a word that starts at any bit. These ask their caller
+// The words of planes: copies, masks, the word of an operand that continues beyond its width, a word that starts at any bit. These ask their caller
 // for planes of the right length.
 use crate::Word;
 use bit::LogicBit;
@@ -6,7 +6,8 @@ ghost use mathlib.Core.Path.{_≡_};
 ghost use Prim.Native.Nat.{_+_, _-_, _*_, _^_, _≤_, min};
 ghost use mathlib.Core.Bool.{cond};
 ghost use lib.Dec.{eqb};
-ghost use lib.ListN.{length, getD};
+ghost use mathlib.Core.List.{_++_};
+ghost use lib.ListN.{length, getD, take, drop};
 ghost use Rattle.words.specs.Vector.{tabulate, bitAt, pack};
 ghost use Rattle.words.specs.Planes.{wordCount, planeBit, planeDigits, fromPlanes, clearAbove, masked, packed, wordAt};
 ghost use Rattle.words.specs.Planes.{lentBy, planesOf};
@@ -151,6 +152,18 @@ pub fn mask_plane(plane: &mut [u64], width: u32)
     let n = width as usize - last * 64;
     let m = ones(n);
     plane[last] = plane[last] & m;
+}
+
+// Copies the first n words of a plane to the front of another, whose further words stay.
+pub fn copy_front(plane: &mut [u64], from: &[u64], n: usize)
+    requires { ⌜ (n ≤ length (now from)) × (n ≤ length (now plane)) ⌝ }
+    ensures { λ _. ⌜ now (plane .exit) ≡ take n (now (from .entry)) ++ drop n (now (plane .entry)) ⌝ }
+{
+    let mut i = 0;
+    while i < n {
+        plane[i] = from[i];
+        i += 1;
+    }
 }
 
 // The word that starts at bit `pos` of a plane; 0 beyond its end.

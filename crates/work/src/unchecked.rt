@@ -16,6 +16,7 @@ use reduce_words::unchecked::contains;
 use reduce_words::unchecked::xor_bits;
 use value::Header;
 use words::Word;
+use words::unchecked::copy_front;
 use words::unchecked::filled;
 use words::unchecked::operand_word;
 ghost use mathlib.Core.Path.{_≡_};
@@ -31,11 +32,8 @@ fn copy_words(from: &[u64], to: &mut [u64])
     requires { ⌜ length (now to) ≡ length (now from) ⌝ }
     ensures { λ _. ⌜ now (to .exit) ≡ now (from .entry) ⌝ }
 {
-    let mut k = 0;
-    while k < to.len() {
-        to[k] = from[k];
-        k += 1;
-    }
+    let n = to.len();
+    copy_front(to, from, n)
 }
 
 // A word that holds a truth as a bit, at its lowest place.

@@ -59,12 +59,6 @@ by-verdict k r e =
     ∙ sym (k .check-vector .ensures) ∙ ap verdict e in
     simp (eq-eqb _ _ (s .0), le-leb _ _ (s .1), f)
 
-sub-if1 : tie.Need-sub-if1
-sub-if1 c = search needs
-
-word-count-requires : tie.Need-word-count-requires
-word-count-requires c κs = search needs
-
 cell-words-requires : tie.Need-cell-words-requires
 cell-words-requires c κs = spanned c .1
 
@@ -72,15 +66,6 @@ cell-words-requires-2 : tie.Need-cell-words-requires-2
 cell-words-requires-2 c κs =
     let e = c .before in
     omega (arith, spanned e .1, start (e .before) .pre .1)
-
-check-vector-requires : tie.Need-check-vector-requires
-check-vector-requires c κs = search needs
-
-enum-told : tie.Need-enum-told
-enum-told c = search needs
-
-enum-told-2 : tie.Need-enum-told-2
-enum-told-2 c = search needs
 
 returns : tie.Need-returns
 returns c =
@@ -97,13 +82,13 @@ pub cell-agrees-spec : {M : Type 1} → statement M
 cell-agrees-spec =
     tie.close
     (tie.spec
-    sub-if1
-    word-count-requires
+    (λ c. search needs)
+    (λ c κs. search needs)
     cell-words-requires
     cell-words-requires-2
-    check-vector-requires
-    enum-told
-    enum-told-2
+    (λ c κs. search needs)
+    (λ c. search needs)
+    (λ c. search needs)
     returns
     returns-2
     returns-3)

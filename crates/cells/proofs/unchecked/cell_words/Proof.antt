@@ -8,24 +8,6 @@ use borrow.Author.Needs.{needs}
 use Rattle.cells.proofs.unchecked.cell_words.Statement.{statement}
 use Rattle.cells.proofs.unchecked.cell_words.Tie as tie
 
-word-count-requires : tie.Need-word-count-requires
-word-count-requires c κs = search needs
-
-add-end : tie.Need-add-end
-add-end c = search needs
-
-mul-result : tie.Need-mul-result
-mul-result c = search needs
-
-sub-result : tie.Need-sub-result
-sub-result c = search needs
-
-part-result-start : tie.Need-part-result-start
-part-result-start c = search needs
-
-part-result-end : tie.Need-part-result-end
-part-result-end c = search needs
-
 returns : tie.Need-returns
 returns c =
     let w = c .before in
@@ -37,10 +19,10 @@ pub cell-words-spec : {M : Type 1} → statement M
 cell-words-spec =
     tie.close
     (tie.spec
-    word-count-requires
-    add-end
-    mul-result
-    sub-result
-    part-result-start
-    part-result-end
+    (λ c κs. search needs)
+    (λ c. search needs)
+    (λ c. search needs)
+    (λ c. search needs)
+    (λ c. search needs)
+    (λ c. search needs)
     returns)

@@ -7,9 +7,6 @@ use borrow.Author.Needs.{needs}
 use Rattle.cells.proofs.unchecked.named.Statement.{statement}
 use Rattle.cells.proofs.unchecked.named.Tie as tie
 
-operand-count-requires : tie.Need-operand-count-requires
-operand-count-requires c κs = search needs
-
 returns : tie.Need-returns
 returns c =
     let k = c .before in
@@ -35,4 +32,4 @@ returns-3 c =
     simp (le-ltb _ _ two, le-ltb _ _ three)
 
 pub named-spec : {M : Type 1} → statement M
-named-spec = tie.close (tie.spec operand-count-requires returns returns-2 returns-3)
+named-spec = tie.close (tie.spec (λ c κs. search needs) returns returns-2 returns-3)

@@ -39,9 +39,6 @@ read-c s = read s (s .args .o .c) (s .pre .1 .1 .1 .0)
 plane : (x : Cell) (p arena : List ℕ) → p ≡ span x arena → Plane (x .header .width) (span x arena) → Plane (x .header .width) p
 plane x p arena e h = subst (Plane (x .header .width)) (sym e) h
 
-word-count-requires : tie.Need-word-count-requires
-word-count-requires c κs = search needs
-
 cell-words-requires : tie.Need-cell-words-requires
 cell-words-requires c κs = let s = c .before .before .before .before .before in read-a s .value-within
 
@@ -70,22 +67,10 @@ size w =
     let e = ap (λ (h : Header). wordCount (h .width)) (start w .pre .1 .1 .1 .1 .1 .0) in
     omega (arith, w .word-count .ensures, e)
 
-sub-work : tie.Need-sub-work
-sub-work c = search needs
-
-part-work-start : tie.Need-part-work-start
-part-work-start c = search needs
-
 part-work-end : tie.Need-part-work-end
 part-work-end c =
     let w = c .before .before .before .before .before .before in
     omega (arith, w .word-count .ensures, start w .pre .1 .1 .1 .1 .1 .1 .0)
-
-sub-work-2 : tie.Need-sub-work-2
-sub-work-2 c = search needs
-
-part-work-start-2 : tie.Need-part-work-start-2
-part-work-start-2 c = search needs
 
 part-work-end-2 : tie.Need-part-work-end-2
 part-work-end-2 c =
@@ -129,12 +114,6 @@ work-requires c κs =
       ),
     )
 
-same-length : tie.Need-same-length
-same-length c = search needs
-
-same-length-2 : tie.Need-same-length-2
-same-length-2 c = search needs
-
 returns : tie.Need-returns
 returns c =
     let k = c .before .before .before .before in
@@ -168,20 +147,20 @@ pub work-cells-spec : {M : Type 1} → statement M
 work-cells-spec =
     tie.close
     (tie.spec
-    word-count-requires
+    (λ c κs. search needs)
     cell-words-requires
     cell-words-requires-2
     cell-words-requires-3
     cell-words-requires-4
     cell-words-requires-5
     cell-words-requires-6
-    sub-work
-    part-work-start
+    (λ c. search needs)
+    (λ c. search needs)
     part-work-end
-    sub-work-2
-    part-work-start-2
+    (λ c. search needs)
+    (λ c. search needs)
     part-work-end-2
     work-requires
-    same-length
-    same-length-2
+    (λ c. search needs)
+    (λ c. search needs)
     returns)

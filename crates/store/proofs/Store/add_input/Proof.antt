@@ -6,7 +6,7 @@ use native.Mathlib.Omega.{arith}
 use borrow.Author.Tests.{lt-leb, lt-ltb, le-ltb}
 use lib.ListN.{length, length-map}
 use Rattle.refusal.specs.Refusals.{refusalNumber}
-use Rattle.refusal.specs.Outcome.{Answer, Outcome, outcome, verdict, orRefuse}
+use Rattle.refusal.specs.Outcome.{Answer, Outcome, outcome, orRefuse}
 use Rattle.refusal.specs.Outcome.Answer.{given, refused}
 use Rattle.words.specs.Planes.{wordCount, Planes, lent}
 use Rattle.value.specs.Checks.{vector, checkVector}
@@ -15,6 +15,7 @@ use Rattle.layout.specs.Layout.{placeAnswer}
 use Rattle.layout.proofs.Answers.{both-given, both-refused, count-few}
 use Rattle.layout.proofs.Agreed.{cells-accepted, next-within}
 use Rattle.store.specs.Store.{State, state, storeHeaders, nextWord, checkStore, appended, checkInput}
+use Rattle.value.proofs.Checks.{verdict-told}
 use Rattle.store.proofs.Held.{state-agrees}
 use Rattle.store.proofs.Inputs.{Accepted, input-accepted, plane-whole, plane-front}
 use borrow.Author.Needs.{needs}
@@ -65,7 +66,7 @@ module _ (w : tie.After-word-count) where
   begin = k (told w)
 
   ordered : checkVector (st begin .args .h) (input begin) ≡ given tt
-  ordered = let v = w .before .before .before in sym (v .check-vector .ensures) ∙ ap verdict (w .before .enum-told .given .1)
+  ordered = let v = w .before .before .before in verdict-told (v .check-vector .ensures) (w .before .enum-told .given .1)
 
 -- nothing was refused
 module _ (e : tie.Else1) where
@@ -150,7 +151,7 @@ returns-2 : tie.Need-returns-2
 returns-2 c =
     let v = c .before .before .before in
     let t = v .before in
-    simp (found t .0, lt-leb _ _ (few t), sym (v .check-vector .ensures) ∙ ap verdict (c .before .r2 .given .1))
+    simp (found t .0, lt-leb _ _ (few t), verdict-told (v .check-vector .ensures) (c .before .r2 .given .1))
 
 same-length-5 : tie.Need-same-length-5
 same-length-5 c = search needs

@@ -1,4 +1,4 @@
--- `cells::unchecked::copy_front`: the first k words are copied (`paste`).
+-- `words::unchecked::copy_front`: the first i words are copied (`paste`).
 use mathlib.Core.Path.{_≡_, refl, sym, ap, _∙_}
 use mathlib.Core.List.{List, _++_}
 use Prim.Native.Nat.{ℕ, _≤_, _<_, _+_, _-_}
@@ -8,35 +8,17 @@ use native.Mathlib.Omega.{arith}
 use borrow.Author.Needs.{needs}
 use lib.ListN.{length, set, getD, take, drop, length-set}
 use lib.Seq.{paste, paste-zero, paste-suc}
-use Rattle.cells.proofs.unchecked.copy_front.Statement.{statement}
-use Rattle.cells.proofs.unchecked.copy_front.Tie as tie
+use Rattle.words.proofs.unchecked.copy_front.Statement.{statement}
+use Rattle.words.proofs.unchecked.copy_front.Tie as tie
 
 abbrev Inv-loop : tie.InvT-loop
-Inv-loop plane₀ from n k₀ plane k = (plane ≡ paste plane₀ 0 from k) × (k ≤ n) × (length plane ≡ length plane₀)
+Inv-loop plane₀ from n i₀ plane i = (plane ≡ paste plane₀ 0 from i) × (i ≤ n) × (length plane ≡ length plane₀)
 
 abbrev μ-loop : tie.MeasureT-loop
-μ-loop plane₀ from n k₀ plane k = n - k
+μ-loop plane₀ from n i₀ plane i = n - i
 
 loop-holds : tie.Need-loop-holds Inv-loop μ-loop
 loop-holds c = (paste-zero (c .args .plane .now) 0 (c .args .from .now), search needs, refl)
-
-mul-plane : tie.Need-mul-plane Inv-loop μ-loop
-mul-plane c = search needs
-
-shared-slice-read-plane : tie.Need-shared-slice-read-plane Inv-loop μ-loop
-shared-slice-read-plane c = search needs
-
-mul-plane-2 : tie.Need-mul-plane-2 Inv-loop μ-loop
-mul-plane-2 c = search needs
-
-slice-write-plane : tie.Need-slice-write-plane Inv-loop μ-loop
-slice-write-plane c = search needs
-
-add-k : tie.Need-add-k Inv-loop μ-loop
-add-k c = search needs
-
-loop-less : tie.Need-loop-less Inv-loop μ-loop
-loop-less c = search needs
 
 -- one word more
 more : (d s l : List ℕ) (j : ℕ) → l ≡ paste d 0 s j → j < length s → j < length d → set l j (getD s j 0) ≡ paste d 0 s (j + 1)
@@ -51,13 +33,10 @@ loop-again : tie.Need-loop-again Inv-loop μ-loop
 loop-again c =
     let l = c .before .before in
     let s = l .before in (
-      more (s .args .plane .now) (s .args .from .now) (l .loop .plane) (l .loop .k) (l .loop .inv .0) (search needs) (search needs),
+      more (s .args .plane .now) (s .args .from .now) (l .loop .plane) (l .loop .i) (l .loop .inv .0) (search needs) (search needs),
       search needs,
       simp length-set (omega arith),
     )
-
-same-length : tie.Need-same-length Inv-loop μ-loop
-same-length c = search needs
 
 done : (d s l : List ℕ) (j n : ℕ) → l ≡ paste d 0 s j → j ≡ n → l ≡ take n s ++ drop n d
 done d s l j n e h = e ∙ ap (paste d 0 s) h ∙ ap (λ (k : ℕ). take n s ++ drop k d) (zero-add n)
@@ -65,7 +44,7 @@ done d s l j n e h = e ∙ ap (paste d 0 s) h ∙ ap (λ (k : ℕ). take n s ++ 
 returns : tie.Need-returns Inv-loop μ-loop
 returns c =
     let l = c .before in
-    done (l .before .args .plane .now) (l .before .args .from .now) (l .loop .plane) (l .loop .k) (l .before .args .n) (l .loop .inv .0) (omega arith)
+    done (l .before .args .plane .now) (l .before .args .from .now) (l .loop .plane) (l .loop .i) (l .before .args .n) (l .loop .inv .0) (omega arith)
 
 pub copy-front-spec : {M : Type 1} → statement M
 copy-front-spec =
@@ -74,12 +53,12 @@ copy-front-spec =
     Inv-loop
     μ-loop
     loop-holds
-    mul-plane
-    shared-slice-read-plane
-    mul-plane-2
-    slice-write-plane
-    add-k
-    loop-less
+    (λ c. search needs)
+    (λ c. search needs)
+    (λ c. search needs)
+    (λ c. search needs)
+    (λ c. search needs)
+    (λ c. search needs)
     loop-again
-    same-length
+    (λ c. search needs)
     returns)

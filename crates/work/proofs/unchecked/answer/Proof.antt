@@ -32,78 +32,6 @@ low e = ap (λ (x : Word). bitOf x 0) e
 everywhere : {x : Word} {b : LogicBit} → x ≡ packed (λ j. b) → bitOf x 0 ≡ b
 everywhere {b = b} e = low e ∙ packed-bit (λ j. b) 0 (omega arith)
 
-enum-told : tie.Need-enum-told
-enum-told c = search needs
-
-and-bits-requires : tie.Need-and-bits-requires
-and-bits-requires c κs = search needs
-
-filled-requires : tie.Need-filled-requires
-filled-requires c κs = search needs
-
-enum-told-2 : tie.Need-enum-told-2
-enum-told-2 c = search needs
-
-contains-requires : tie.Need-contains-requires
-contains-requires c κs = search needs
-
-truth-word-requires : tie.Need-truth-word-requires
-truth-word-requires c κs = search needs
-
-enum-told-3 : tie.Need-enum-told-3
-enum-told-3 c = search needs
-
-xor-bits-requires : tie.Need-xor-bits-requires
-xor-bits-requires c κs = search needs
-
-filled-requires-2 : tie.Need-filled-requires-2
-filled-requires-2 c κs = search needs
-
-enum-known-q : tie.Need-enum-known-q
-enum-known-q c = search needs
-
-compare-requires : tie.Need-compare-requires
-compare-requires c κs = search needs
-
-filled-requires-3 : tie.Need-filled-requires-3
-filled-requires-3 c κs = search needs
-
-enum-told-4 : tie.Need-enum-told-4
-enum-told-4 c = search needs
-
-contains-requires-2 : tie.Need-contains-requires-2
-contains-requires-2 c κs = search needs
-
-truth-word-requires-2 : tie.Need-truth-word-requires-2
-truth-word-requires-2 c κs = search needs
-
-contains-requires-3 : tie.Need-contains-requires-3
-contains-requires-3 c κs = search needs
-
-truth-word-requires-3 : tie.Need-truth-word-requires-3
-truth-word-requires-3 c κs = search needs
-
-and-lanes-requires : tie.Need-and-lanes-requires
-and-lanes-requires c κs = search needs
-
-enum-told-5 : tie.Need-enum-told-5
-enum-told-5 c = search needs
-
-contains-requires-4 : tie.Need-contains-requires-4
-contains-requires-4 c κs = search needs
-
-truth-word-requires-4 : tie.Need-truth-word-requires-4
-truth-word-requires-4 c κs = search needs
-
-contains-requires-5 : tie.Need-contains-requires-5
-contains-requires-5 c κs = search needs
-
-truth-word-requires-5 : tie.Need-truth-word-requires-5
-truth-word-requires-5 c κs = search needs
-
-or-lanes-requires : tie.Need-or-lanes-requires
-or-lanes-requires c κs = search needs
-
 returns : tie.Need-returns
 returns c =
     let x = c .before in
@@ -151,30 +79,30 @@ pub answer-spec : {M : Type 1} → statement M
 answer-spec =
     tie.close
     (tie.spec
-    enum-told
-    and-bits-requires
-    filled-requires
-    enum-told-2
-    contains-requires
-    truth-word-requires
-    enum-told-3
-    xor-bits-requires
-    filled-requires-2
-    enum-known-q
-    compare-requires
-    filled-requires-3
-    enum-told-4
-    contains-requires-2
-    truth-word-requires-2
-    contains-requires-3
-    truth-word-requires-3
-    and-lanes-requires
-    enum-told-5
-    contains-requires-4
-    truth-word-requires-4
-    contains-requires-5
-    truth-word-requires-5
-    or-lanes-requires
+    (λ c. search needs)
+    (λ c κs. search needs)
+    (λ c κs. search needs)
+    (λ c. search needs)
+    (λ c κs. search needs)
+    (λ c κs. search needs)
+    (λ c. search needs)
+    (λ c κs. search needs)
+    (λ c κs. search needs)
+    (λ c. search needs)
+    (λ c κs. search needs)
+    (λ c κs. search needs)
+    (λ c. search needs)
+    (λ c κs. search needs)
+    (λ c κs. search needs)
+    (λ c κs. search needs)
+    (λ c κs. search needs)
+    (λ c κs. search needs)
+    (λ c. search needs)
+    (λ c κs. search needs)
+    (λ c κs. search needs)
+    (λ c κs. search needs)
+    (λ c κs. search needs)
+    (λ c κs. search needs)
     returns
     returns-2
     returns-3

@@ -1,67 +1,20 @@
--- `work::unchecked::copy_words`: the words below k are copied.
-use mathlib.Core.Path.{refl, _∙_}
-use Prim.Native.Nat.{_-_}
+-- `work::unchecked::copy_words`: the front that is copied is all of the plane.
+use mathlib.Core.Path.{ap₂, _∙_}
+use mathlib.Core.List.{_++_, append-nil}
 use native.Mathlib.Omega.{arith}
-use lib.ListN.{length, getD}
-use lib.Seq.{ext-getD}
-use Rattle.words.specs.Vector.{FilledTo}
-use Rattle.words.proofs.Fill.{start, more}
 use borrow.Author.Needs.{needs}
+use lib.ListN.{length}
+use lib.Seq.{take-all, drop-length}
 use Rattle.work.proofs.unchecked.copy_words.Statement.{statement}
 use Rattle.work.proofs.unchecked.copy_words.Tie as tie
 
-abbrev Inv-loop : tie.InvT-loop
-Inv-loop from to₀ k₀ to k = FilledTo 0 (λ i. getD from i 0) (length to₀) k to
-
-abbrev μ-loop : tie.MeasureT-loop
-μ-loop from to₀ k₀ to k = length to₀ - k
-
-loop-holds : tie.Need-loop-holds Inv-loop μ-loop
-loop-holds c = start refl
-
-mul-to : tie.Need-mul-to Inv-loop μ-loop
-mul-to c = search needs
-
-shared-slice-read-to : tie.Need-shared-slice-read-to Inv-loop μ-loop
-shared-slice-read-to c = search needs
-
-mul-to-2 : tie.Need-mul-to-2 Inv-loop μ-loop
-mul-to-2 c = search needs
-
-slice-write-to : tie.Need-slice-write-to Inv-loop μ-loop
-slice-write-to c = search needs
-
-add-k : tie.Need-add-k Inv-loop μ-loop
-add-k c = search needs
-
-loop-less : tie.Need-loop-less Inv-loop μ-loop
-loop-less c = search needs
-
-loop-again : tie.Need-loop-again Inv-loop μ-loop
-loop-again c = more (c .before .before .loop .inv) (omega arith) refl
-
-same-length : tie.Need-same-length Inv-loop μ-loop
-same-length c = search needs
-
-returns : tie.Need-returns Inv-loop μ-loop
+returns : tie.Need-returns
 returns c =
-    let l = c .before in
-    let s = l .before in
-    ext-getD 0 _ _ (l .loop .inv .long ∙ s .pre) (λ i m. l .loop .inv .upto i (omega (arith, l .loop .inv .long, c .loop-test .left)))
+    let k = c .before .before in
+    let s = k .before .before .before .before in
+    k .copy-front .ensures
+    ∙ ap₂ _++_ (take-all (length (s .args .to .now)) (s .args .from .now) (omega (arith, s .pre))) (drop-length (s .args .to .now))
+    ∙ append-nil (s .args .from .now)
 
 pub copy-words-spec : {M : Type 1} → statement M
-copy-words-spec =
-    tie.close
-    (tie.spec
-    Inv-loop
-    μ-loop
-    loop-holds
-    mul-to
-    shared-slice-read-to
-    mul-to-2
-    slice-write-to
-    add-k
-    loop-less
-    loop-again
-    same-length
-    returns)
+copy-words-spec = tie.close (tie.spec (λ c κs. search needs) (λ c. search needs) returns)

@@ -64,15 +64,6 @@ module _ (c : tie.After-contains) where
       planesOf (selected t (second there) (third there)) ≡ planesOf (opBits (a .op) (first there) (second there) (third there) (a .pos))
   chosen t e = ap (λ (t : Truth). planesOf (selected t (second there) (third there))) (sym e ∙ c .contains .ensures) ∙ told there _ (c .before .enum-told2 .given .1)
 
-family-of-requires : tie.Need-family-of-requires
-family-of-requires c κs = search needs
-
-enum-known-j : tie.Need-enum-known-j
-enum-known-j c = search needs
-
-larger-requires : tie.Need-larger-requires
-larger-requires c κs = search needs
-
 join-planes-requires : tie.Need-join-planes-requires
 join-planes-requires c κs =
     let l = c .before .before in
@@ -83,20 +74,11 @@ join-planes-requires c κs =
     let w = ap wordCount (sym (l .larger .ensures)) in
     (s .pre .0, (s .pre .1 .0, (l .larger .ensures, (n .0 ∙ w, n .1 ∙ w))))
 
-enum-told : tie.Need-enum-told
-enum-told c = search needs
-
 not-planes-requires : tie.Need-not-planes-requires
 not-planes-requires c κs =
     let t = c .before .before in
     let k = t .before .before in
     (k .before .before .before .before .before .before .before .before .before .pre .0, sized k _ (t .enum-told .given .1))
-
-enum-known-q : tie.Need-enum-known-q
-enum-known-q c = search needs
-
-answer-requires : tie.Need-answer-requires
-answer-requires c κs = search needs
 
 slice-write-ov : tie.Need-slice-write-ov
 slice-write-ov c =
@@ -110,15 +92,6 @@ slice-write-ou c =
     let n = sized (q .before .before) _ (q .q .given .1) in
     omega (arith, n .1)
 
-enum-told-2 : tie.Need-enum-told-2
-enum-told-2 c = search needs
-
-contains-requires : tie.Need-contains-requires
-contains-requires c κs = search needs
-
-enum-told-3 : tie.Need-enum-told-3
-enum-told-3 c = search needs
-
 copy-words-requires : tie.Need-copy-words-requires
 copy-words-requires c κs =
     let h = c .before .before .before in
@@ -128,9 +101,6 @@ copy-words-requires-2 : tie.Need-copy-words-requires-2
 copy-words-requires-2 c κs =
     let h = c .before .before .before .before .before .before .before in
     arm-sized h .1 ∙ sym (h .before .before .before .before .before .before .before .before .before .before .before .before .pre .1 .0 .1 .count)
-
-enum-told-4 : tie.Need-enum-told-4
-enum-told-4 c = search needs
 
 copy-words-requires-3 : tie.Need-copy-words-requires-3
 copy-words-requires-3 c κs =
@@ -142,23 +112,11 @@ copy-words-requires-4 c κs =
     let h = c .before .before .before .before .before .before .before in
     arm-sized h .1 ∙ ap wordCount (sym (alike h)) ∙ sym (h .before .before .before .before .before .before .before .before .before .before .before .before .pre .1 .1 .0 .1 .count)
 
-enum-told-5 : tie.Need-enum-told-5
-enum-told-5 c = search needs
-
 join-planes-requires-2 : tie.Need-join-planes-requires-2
 join-planes-requires-2 c κs =
     let h = c .before .before .before .before in
     let s = h .before .before .before .before .before .before .before .before .before .before .before .before in
     (s .pre .1 .0, (s .pre .1 .1 .0, (omega (arith, alike h), arm-sized h)))
-
-enum-told-6 : tie.Need-enum-told-6
-enum-told-6 c = search needs
-
-cast-n : tie.Need-cast-n
-cast-n c = search needs
-
-operand-word-requires : tie.Need-operand-word-requires
-operand-word-requires c κs = search needs
 
 copy-words-requires-5 : tie.Need-copy-words-requires-5
 copy-words-requires-5 c κs =
@@ -180,35 +138,17 @@ splice64-requires c κs =
     let w = s .args .a .width in
     (subst (Plane w) (sym (v .copy-words5 .ensures)) (s .pre .0 .0), subst (Plane w) (sym (u .copy-words6 .ensures)) (s .pre .0 .1))
 
-same-length : tie.Need-same-length
-same-length c = search needs
-
-same-length-2 : tie.Need-same-length-2
-same-length-2 c = search needs
-
 returns : tie.Need-returns
 returns c =
     let p = c .before .before .before .before in
     let j = p .before .before .before .before .before in
     p .join-planes .ensures ∙ told (j .before .before) _ (j .j .given .1)
 
-same-length-3 : tie.Need-same-length-3
-same-length-3 c = search needs
-
-same-length-4 : tie.Need-same-length-4
-same-length-4 c = search needs
-
 returns-2 : tie.Need-returns-2
 returns-2 c =
     let p = c .before .before .before .before in
     let t = p .before .before .before in
     p .not-planes .ensures ∙ told (t .before .before) _ (t .enum-told .given .1)
-
-same-length-5 : tie.Need-same-length-5
-same-length-5 c = search needs
-
-same-length-6 : tie.Need-same-length-6
-same-length-6 c = search needs
 
 returns-3 : tie.Need-returns-3
 returns-3 c =
@@ -223,12 +163,6 @@ returns-3 c =
     (plane-done unknownDigit (r ∷ []) _ _ _ (more {out = a .ou .now} (start (n .1)) (omega arith) (unknown-word (x .answer .result) r (x .answer .ensures))) (omega arith) refl)
     ∙ told k _ (q .q .given .1)
 
-same-length-7 : tie.Need-same-length-7
-same-length-7 c = search needs
-
-same-length-8 : tie.Need-same-length-8
-same-length-8 c = search needs
-
 returns-4 : tie.Need-returns-4
 returns-4 c =
     let u = c .before .before in
@@ -241,12 +175,6 @@ returns-4 c =
     ap₂ lent (v .copy-words .ensures) (u .copy-words2 .ensures)
     ∙ planes-again (a .b .width) (a .bv .now) (a .bu .now) (s .pre .1 .0 .0) (s .pre .1 .0 .1) (λ i. k .before .before .before .before .before .before .shared-slice-known3 .given i .fits) (λ i. k .before .before .before .before .before .shared-slice-known4 .given i .fits)
     ∙ chosen h _ (t .enum-told3 .given .1)
-
-same-length-9 : tie.Need-same-length-9
-same-length-9 c = search needs
-
-same-length-10 : tie.Need-same-length-10
-same-length-10 c = search needs
 
 returns-5 : tie.Need-returns-5
 returns-5 c =
@@ -261,23 +189,11 @@ returns-5 c =
     ∙ planes-again (a .c .width) (a .cv .now) (a .cu .now) (s .pre .1 .1 .0 .0) (s .pre .1 .1 .0 .1) (λ i. k .before .before .before .before .shared-slice-known5 .given i .fits) (λ i. k .before .before .before .shared-slice-known6 .given i .fits)
     ∙ chosen h _ (t .enum-told4 .given .1)
 
-same-length-11 : tie.Need-same-length-11
-same-length-11 c = search needs
-
-same-length-12 : tie.Need-same-length-12
-same-length-12 c = search needs
-
 returns-6 : tie.Need-returns-6
 returns-6 c =
     let p = c .before .before .before .before in
     let t = p .before .before .before in
     p .join-planes2 .ensures ∙ chosen (t .before .before) _ (t .enum-told5 .given .1)
-
-same-length-13 : tie.Need-same-length-13
-same-length-13 c = search needs
-
-same-length-14 : tie.Need-same-length-14
-same-length-14 c = search needs
 
 returns-7 : tie.Need-returns-7
 returns-7 c =
@@ -298,50 +214,50 @@ pub work-spec : {M : Type 1} → statement M
 work-spec =
     tie.close
     (tie.spec
-    family-of-requires
-    enum-known-j
-    larger-requires
+    (λ c κs. search needs)
+    (λ c. search needs)
+    (λ c κs. search needs)
     join-planes-requires
-    enum-told
+    (λ c. search needs)
     not-planes-requires
-    enum-known-q
-    answer-requires
+    (λ c. search needs)
+    (λ c κs. search needs)
     slice-write-ov
     slice-write-ou
-    enum-told-2
-    contains-requires
-    enum-told-3
+    (λ c. search needs)
+    (λ c κs. search needs)
+    (λ c. search needs)
     copy-words-requires
     copy-words-requires-2
-    enum-told-4
+    (λ c. search needs)
     copy-words-requires-3
     copy-words-requires-4
-    enum-told-5
+    (λ c. search needs)
     join-planes-requires-2
-    enum-told-6
-    cast-n
-    operand-word-requires
+    (λ c. search needs)
+    (λ c. search needs)
+    (λ c κs. search needs)
     copy-words-requires-5
     copy-words-requires-6
     splice64-requires
-    same-length
-    same-length-2
+    (λ c. search needs)
+    (λ c. search needs)
     returns
-    same-length-3
-    same-length-4
+    (λ c. search needs)
+    (λ c. search needs)
     returns-2
-    same-length-5
-    same-length-6
+    (λ c. search needs)
+    (λ c. search needs)
     returns-3
-    same-length-7
-    same-length-8
+    (λ c. search needs)
+    (λ c. search needs)
     returns-4
-    same-length-9
-    same-length-10
+    (λ c. search needs)
+    (λ c. search needs)
     returns-5
-    same-length-11
-    same-length-12
+    (λ c. search needs)
+    (λ c. search needs)
     returns-6
-    same-length-13
-    same-length-14
+    (λ c. search needs)
+    (λ c. search needs)
     returns-7)
