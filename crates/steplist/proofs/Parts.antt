@@ -1,17 +1,18 @@
 -- From the code's answers for the parts of a list to what the readers find, and from there to the whole text, which is shorter than any place that
 -- says that nothing was found.
 --     input-got, step-got     an input and a step, from the answers for their lines
---     left, left-..      several values, of which some are read
+--     left, left-..      several values, of which some are read; one more is read into an array; all are read
 --     first-inputs, first-steps      the first elements of an array, one by one
 --     list-got, accepted, refused-6     a whole text
 use mathlib.Core.Path.{_≡_, refl, sym, ap, _∙_}
 use mathlib.Core.Bool.{Bool, true, false, _&&_, cond}
 use mathlib.Core.List.{List, [], _∷_, _++_, map}
-use Prim.Native.Nat.{ℕ, zero, suc, _+_, _≤_, _<_}
+use Prim.Native.Nat.{ℕ, zero, suc, _+_, _-_, _≤_, _<_}
+use native.Mathlib.Numerals.{add-one}
 use native.Mathlib.Omega.{arith}
 use lib.Dec.{eqb, leb}
-use lib.ListN.{length, take, drop, getD, drop-of-length-le, length-map, List·getD-map}
-use lib.Seq.{drop-cons, drop-drop, length-take-le, getD-take}
+use lib.ListN.{length, take, drop, getD, set, drop-of-length-le, length-map, List·getD-map}
+use lib.Seq.{drop-cons, drop-drop, length-take-le, getD-take, take-suc-set}
 use borrow.Author.Tests.{ne-eqb, le-leb, leb-true, leb-false, eqb-false}
 use Rattle.bit.specs.declared.LogicBit.{LogicBit}
 use Rattle.refusal.specs.Outcome.Answer.{given, refused}
@@ -174,6 +175,25 @@ module _ {A : Type 0} (r : List ℕ → Got A) (s : List ℕ) where
       go : (d : Bool) → next (onlyIf d (found b (drop i s))) (λ y t. next (many r n t) (f y)) ≡ next (next (onlyIf d (found (tt {0}) (drop i s))) (λ x. many r n)) (f b)
       go true = refl
       go false = refl
+
+-- `seen` is what the first elements of an array stand for, each for `one` of it
+module _ {A B : Type 0} (r : List ℕ → Got B) (s : List ℕ) (seen : List A → List B) (one : A → B)
+    (last : (xs : List A) (x : A) → seen xs ++ (one x ∷ []) ≡ seen (xs ++ (x ∷ []))) where
+  pub left-turn : r [] ≡ broken → (xs : List A) (i n p q : ℕ) (x : A) → i < n → i < length xs → gotAt s (one x) q ≡ r (drop p s)
+      → left r s (seen (take i xs)) (n - i) p ≡ left r s (seen (take (i + 1) (set xs i x))) (n - (i + 1)) q
+  left-turn none xs i n p q x h l e =
+      let m : n - i ≡ suc (n - (i + 1)) = omega arith in
+      let t : take i xs ++ (x ∷ []) ≡ take (i + 1) (set xs i x) = sym (rw add-one (take-suc-set xs i x l)) in
+      ap (λ (k : ℕ). left r s (seen (take i xs)) k p) m
+      ∙ left-next r s none (seen (take i xs)) (n - (i + 1)) p q (one x) e
+      ∙ ap (λ (l : List B). left r s l (n - (i + 1)) q) (last (take i xs) x ∙ ap seen t)
+
+  pub left-read : (xs : List A) (i n p : ℕ) → i ≡ n → left r s (seen (take i xs)) (n - i) p ≡ gotAt s (seen (take n xs)) p
+  left-read xs i n p e =
+      let m : n - i ≡ 0 = omega arith in
+      ap (λ (k : ℕ). left r s (seen (take i xs)) k p) m
+      ∙ left-none r s (seen (take i xs)) p
+      ∙ ap (λ (k : ℕ). gotAt s (seen (take k xs)) p) e
 
 pub first-inputs : (s : List ℕ) (xs : List Input) (n : ℕ) → n ≤ length xs → map (inputIn s) (take n xs) ≡ inputsIn s n xs
 first-inputs s xs n h =

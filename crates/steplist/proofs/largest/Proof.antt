@@ -4,9 +4,6 @@ use borrow.Author.Needs.{needs}
 use Rattle.steplist.proofs.largest.Statement.{statement}
 use Rattle.steplist.proofs.largest.Tie as tie
 
-number-count-requires : tie.Need-number-count-requires
-number-count-requires c κs = search needs
-
 returns : tie.Need-returns
 returns c = rw (← c .before .number-count .ensures, lt-ltb _ _ (c .if1 .taken))
 
@@ -14,4 +11,4 @@ returns-2 : tie.Need-returns-2
 returns-2 c = rw (← c .before .number-count .ensures, le-ltb _ _ (c .if1 .left))
 
 pub largest-spec : {M : Type 1} → statement M
-largest-spec = tie.close (tie.spec number-count-requires returns returns-2)
+largest-spec = tie.close (tie.spec (λ c κs. search needs) returns returns-2)

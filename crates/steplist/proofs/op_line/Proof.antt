@@ -35,15 +35,6 @@ module _ (c : tie.After-one-of) where
   unfolding nameLine
   named = c .one-of .ensures ∙ ap (lineIn text) (keyed-names opKey names 0 (drop from text))
 
-slice-aggregate-one-of : tie.Need-slice-aggregate-one-of
-slice-aggregate-one-of c = search needs
-
-one-of-requires : tie.Need-one-of-requires
-one-of-requires c κs = search needs
-
-cast-op-at : tie.Need-cast-op-at
-cast-op-at c = search needs
-
 op-at-requires : tie.Need-op-at-requires
 op-at-requires c κs =
     let w = c .before in
@@ -59,4 +50,4 @@ returns c =
     ∙ sym (op-line (text w) (nameLine opKey names (drop (from w) (text w))))
 
 pub op-line-spec : {M : Type 1} → statement M
-op-line-spec = tie.close (tie.spec slice-aggregate-one-of one-of-requires cast-op-at op-at-requires returns)
+op-line-spec = tie.close (tie.spec (λ c. search needs) (λ c κs. search needs) (λ c. search needs) op-at-requires returns)

@@ -33,24 +33,6 @@ module _ (c : tie.After-one-of) where
   unfolding nameLine
   kind-read = c .one-of .ensures ∙ ap (lineIn text) (keyed-names kindKey kinds 0 (drop behind-width text))
 
-slice-aggregate-number-line : tie.Need-slice-aggregate-number-line
-slice-aggregate-number-line c = search needs
-
-number-line-requires : tie.Need-number-line-requires
-number-line-requires c κs = search needs
-
-slice-aggregate-one-of : tie.Need-slice-aggregate-one-of
-slice-aggregate-one-of c = search needs
-
-one-of-requires : tie.Need-one-of-requires
-one-of-requires c κs = search needs
-
-slice-aggregate-bits-line : tie.Need-slice-aggregate-bits-line
-slice-aggregate-bits-line c = search needs
-
-bits-line-requires : tie.Need-bits-line-requires
-bits-line-requires c κs = search needs
-
 add-t18 : tie.Need-add-t18
 add-t18 c =
     let k = c .before .before .before .before .before in
@@ -69,11 +51,11 @@ pub read-input-spec : {M : Type 1} → statement M
 read-input-spec =
     tie.close
     (tie.spec
-    slice-aggregate-number-line
-    number-line-requires
-    slice-aggregate-one-of
-    one-of-requires
-    slice-aggregate-bits-line
-    bits-line-requires
+    (λ c. search needs)
+    (λ c κs. search needs)
+    (λ c. search needs)
+    (λ c κs. search needs)
+    (λ c. search needs)
+    (λ c κs. search needs)
     add-t18
     returns)

@@ -33,24 +33,6 @@ module _ (k : tie.After-number-line2) where
   steps-fit =
       line-within text short (line-exact stepsKey 256) (k .before .before .number-line .result .next) (k .number-line2 .result) (k .number-line2 .ensures) (omega arith)
 
-slice-aggregate-number-line : tie.Need-slice-aggregate-number-line
-slice-aggregate-number-line c = search needs
-
-number-line-requires : tie.Need-number-line-requires
-number-line-requires c κs = search needs
-
-slice-aggregate-number-line-2 : tie.Need-slice-aggregate-number-line-2
-slice-aggregate-number-line-2 c = search needs
-
-number-line-requires-2 : tie.Need-number-line-requires-2
-number-line-requires-2 c κs = search needs
-
-cast-input-count : tie.Need-cast-input-count
-cast-input-count c = search needs
-
-cast-step-count : tie.Need-cast-step-count
-cast-step-count c = search needs
-
 read-inputs-requires : tie.Need-read-inputs-requires
 read-inputs-requires c κs = inputs-fit (c .before .before)
 
@@ -80,12 +62,12 @@ pub read-list-spec : {M : Type 1} → statement M
 read-list-spec =
     tie.close
     (tie.spec
-    slice-aggregate-number-line
-    number-line-requires
-    slice-aggregate-number-line-2
-    number-line-requires-2
-    cast-input-count
-    cast-step-count
+    (λ c. search needs)
+    (λ c κs. search needs)
+    (λ c. search needs)
+    (λ c κs. search needs)
+    (λ c. search needs)
+    (λ c. search needs)
     read-inputs-requires
     read-steps-requires
     returns

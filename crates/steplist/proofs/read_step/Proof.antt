@@ -8,36 +8,6 @@ use borrow.Author.Needs.{needs}
 use Rattle.steplist.proofs.read_step.Statement.{statement}
 use Rattle.steplist.proofs.read_step.Tie as tie
 
-op-line-requires : tie.Need-op-line-requires
-op-line-requires c κs = search needs
-
-slice-aggregate-number-line : tie.Need-slice-aggregate-number-line
-slice-aggregate-number-line c = search needs
-
-largest-requires : tie.Need-largest-requires
-largest-requires c κs = search needs
-
-number-line-requires : tie.Need-number-line-requires
-number-line-requires c κs = search needs
-
-slice-aggregate-number-line-2 : tie.Need-slice-aggregate-number-line-2
-slice-aggregate-number-line-2 c = search needs
-
-largest-requires-2 : tie.Need-largest-requires-2
-largest-requires-2 c κs = search needs
-
-number-line-requires-2 : tie.Need-number-line-requires-2
-number-line-requires-2 c κs = search needs
-
-slice-aggregate-number-line-3 : tie.Need-slice-aggregate-number-line-3
-slice-aggregate-number-line-3 c = search needs
-
-largest-requires-3 : tie.Need-largest-requires-3
-largest-requires-3 c κs = search needs
-
-number-line-requires-3 : tie.Need-number-line-requires-3
-number-line-requires-3 c κs = search needs
-
 returns : tie.Need-returns
 returns c =
     let b = c .before .before .before in
@@ -55,14 +25,14 @@ pub read-step-spec : {M : Type 1} → statement M
 read-step-spec =
     tie.close
     (tie.spec
-    op-line-requires
-    slice-aggregate-number-line
-    largest-requires
-    number-line-requires
-    slice-aggregate-number-line-2
-    largest-requires-2
-    number-line-requires-2
-    slice-aggregate-number-line-3
-    largest-requires-3
-    number-line-requires-3
+    (λ c κs. search needs)
+    (λ c. search needs)
+    (λ c κs. search needs)
+    (λ c κs. search needs)
+    (λ c. search needs)
+    (λ c κs. search needs)
+    (λ c κs. search needs)
+    (λ c. search needs)
+    (λ c κs. search needs)
+    (λ c κs. search needs)
     returns)
