@@ -1,9 +1,9 @@
 -- `bitwise::bitwise_not`: refused as checked, else inverted.
-use mathlib.Core.Path.{sym, ap, _∙_}
-use Rattle.refusal.specs.Outcome.{outcome, verdict}
+use mathlib.Core.Path.{ap}
+use Rattle.refusal.specs.Outcome.{outcome}
 use Rattle.refusal.specs.Outcome.Answer.{given}
 use Rattle.words.specs.Planes.{Planes, lent}
-use Rattle.value.proofs.Checks.{exactly-accepted}
+use Rattle.value.proofs.Checks.{verdict-told, exactly-accepted}
 use Rattle.value.specs.Checks.{checkOutput}
 use Rattle.value.proofs.Checks.{vector-accepted}
 use Rattle.bitwise_words.specs.Joined.{notHeader}
@@ -17,20 +17,20 @@ not-planes-requires c κs =
     let t2 = c .before .before in
     let t = t2 .before .before .before .before .before in
     let a = t .before .before .before .before .before .before .before .args in
-    let p = vector-accepted (a .a) (lent (a .av .now) (a .au .now)) (sym (t .before .before .check-vector .ensures) ∙ ap verdict (t .enum-told .given .1)) in
-    let l = exactly-accepted _ (lent (a .ov .now) (a .ou .now)) 5 (sym (t2 .before .before .check-output .ensures) ∙ ap verdict (t2 .enum-told2 .given .1)) in
+    let p = vector-accepted (a .a) (lent (a .av .now) (a .au .now)) (verdict-told (t .before .before .check-vector .ensures) (t .enum-told .given .1)) in
+    let l = exactly-accepted _ (lent (a .ov .now) (a .ou .now)) 5 (verdict-told (t2 .before .before .check-output .ensures) (t2 .enum-told2 .given .1)) in
     ((p .planes .value-plane, p .planes .unknown-plane), l)
 
 returns : tie.Need-returns
 returns c =
     let t = c .before in
-    simp (sym (t .before .before .check-vector .ensures) ∙ ap verdict (t .r .given .1))
+    simp (verdict-told (t .before .before .check-vector .ensures) (t .r .given .1))
 
 returns-2 : tie.Need-returns-2
 returns-2 c =
     let t2 = c .before in
     let t = t2 .before .before .before .before .before in
-    simp (sym (t .before .before .check-vector .ensures) ∙ ap verdict (t .enum-told .given .1), sym (t2 .before .before .check-output .ensures) ∙ ap verdict (t2 .r2 .given .1))
+    simp (verdict-told (t .before .before .check-vector .ensures) (t .enum-told .given .1), verdict-told (t2 .before .before .check-output .ensures) (t2 .r2 .given .1))
 
 returns-3 : tie.Need-returns-3
 returns-3 c =
@@ -38,7 +38,7 @@ returns-3 c =
     let t2 = j .before .before .before in
     let t = t2 .before .before .before .before .before in
     let a = t .before .before .before .before .before .before .before .args in
-    simp (sym (t .before .before .check-vector .ensures) ∙ ap verdict (t .enum-told .given .1), sym (t2 .before .before .check-output .ensures) ∙ ap verdict (t2 .enum-told2 .given .1))
+    simp (verdict-told (t .before .before .check-vector .ensures) (t .enum-told .given .1), verdict-told (t2 .before .before .check-output .ensures) (t2 .enum-told2 .given .1))
     (ap (λ (p : Planes). outcome (given (notHeader (a .a))) p) (j .not-planes .ensures))
 
 pub bitwise-not-spec : {M : Type 1} → statement M

@@ -1,9 +1,9 @@
 -- `bitwise::join_vectors`: refused as checked, else joined.
 use mathlib.Core.Path.{sym, ap, ap₂, _∙_}
-use Rattle.refusal.specs.Outcome.{outcome, verdict}
+use Rattle.refusal.specs.Outcome.{outcome}
 use Rattle.refusal.specs.Outcome.Answer.{given}
 use Rattle.words.specs.Planes.{Planes, lent}
-use Rattle.value.proofs.Checks.{exactly-accepted}
+use Rattle.value.proofs.Checks.{verdict-told, exactly-accepted}
 use Rattle.value.specs.declared.Header.{Header}
 use Rattle.value.specs.Checks.{checkOutput}
 use Rattle.value.proofs.Checks.{vector-accepted}
@@ -19,9 +19,9 @@ join-planes-requires c κs =
     let t2 = h .before in
     let t1 = t2 .before .before .before in
     let a = t1 .before .before .before .before .before .before .before .before .before .args in
-    let p = vector-accepted (a .a) (lent (a .av .now) (a .au .now)) (sym (t1 .before .before .check-vector .ensures) ∙ ap verdict (t1 .enum-told .given .1)) .planes in
-    let q = vector-accepted (a .b) (lent (a .bv .now) (a .bu .now)) (sym (t2 .before .before .check-vector2 .ensures) ∙ ap verdict (t2 .enum-told2 .given .1)) .planes in
-    let l = exactly-accepted _ (lent (a .ov .now) (a .ou .now)) 5 (sym (t3 .before .before .check-output .ensures) ∙ ap verdict (t3 .enum-told3 .given .1)) in (
+    let p = vector-accepted (a .a) (lent (a .av .now) (a .au .now)) (verdict-told (t1 .before .before .check-vector .ensures) (t1 .enum-told .given .1)) .planes in
+    let q = vector-accepted (a .b) (lent (a .bv .now) (a .bu .now)) (verdict-told (t2 .before .before .check-vector2 .ensures) (t2 .enum-told2 .given .1)) .planes in
+    let l = exactly-accepted _ (lent (a .ov .now) (a .ou .now)) 5 (verdict-told (t3 .before .before .check-output .ensures) (t3 .enum-told3 .given .1)) in (
       (p .value-plane, p .unknown-plane),
       ((q .value-plane, q .unknown-plane), (ap (λ (x : Header). x .width) (h .result-header .ensures), l)),
     )
@@ -29,13 +29,13 @@ join-planes-requires c κs =
 returns : tie.Need-returns
 returns c =
     let t = c .before in
-    simp (sym (t .before .before .check-vector .ensures) ∙ ap verdict (t .r .given .1))
+    simp (verdict-told (t .before .before .check-vector .ensures) (t .r .given .1))
 
 returns-2 : tie.Need-returns-2
 returns-2 c =
     let t = c .before in
     let t1 = t .before .before .before in
-    simp (sym (t1 .before .before .check-vector .ensures) ∙ ap verdict (t1 .enum-told .given .1), sym (t .before .before .check-vector2 .ensures) ∙ ap verdict (t .r2 .given .1))
+    simp (verdict-told (t1 .before .before .check-vector .ensures) (t1 .enum-told .given .1), verdict-told (t .before .before .check-vector2 .ensures) (t .r2 .given .1))
 
 returns-3 : tie.Need-returns-3
 returns-3 c =
@@ -44,7 +44,7 @@ returns-3 c =
     let t2 = h .before in
     let t1 = t2 .before .before .before in
     let a = t1 .before .before .before .before .before .before .before .before .before .args in
-    simp (sym (t1 .before .before .check-vector .ensures) ∙ ap verdict (t1 .enum-told .given .1), sym (t2 .before .before .check-vector2 .ensures) ∙ ap verdict (t2 .enum-told2 .given .1), sym (ap (λ (x : Header). checkOutput (x .width) (lent (a .ov .now) (a .ou .now))) (h .result-header .ensures)) ∙ sym (t3 .before .before .check-output .ensures) ∙ ap verdict (t3 .r3 .given .1))
+    simp (verdict-told (t1 .before .before .check-vector .ensures) (t1 .enum-told .given .1), verdict-told (t2 .before .before .check-vector2 .ensures) (t2 .enum-told2 .given .1), sym (ap (λ (x : Header). checkOutput (x .width) (lent (a .ov .now) (a .ou .now))) (h .result-header .ensures)) ∙ verdict-told (t3 .before .before .check-output .ensures) (t3 .r3 .given .1))
 
 returns-4 : tie.Need-returns-4
 returns-4 c =
@@ -54,7 +54,7 @@ returns-4 c =
     let t2 = h .before in
     let t1 = t2 .before .before .before in
     let a = t1 .before .before .before .before .before .before .before .before .before .args in
-    simp (sym (t1 .before .before .check-vector .ensures) ∙ ap verdict (t1 .enum-told .given .1), sym (t2 .before .before .check-vector2 .ensures) ∙ ap verdict (t2 .enum-told2 .given .1), sym (ap (λ (x : Header). checkOutput (x .width) (lent (a .ov .now) (a .ou .now))) (h .result-header .ensures)) ∙ sym (t3 .before .before .check-output .ensures) ∙ ap verdict (t3 .enum-told3 .given .1))
+    simp (verdict-told (t1 .before .before .check-vector .ensures) (t1 .enum-told .given .1), verdict-told (t2 .before .before .check-vector2 .ensures) (t2 .enum-told2 .given .1), sym (ap (λ (x : Header). checkOutput (x .width) (lent (a .ov .now) (a .ou .now))) (h .result-header .ensures)) ∙ verdict-told (t3 .before .before .check-output .ensures) (t3 .enum-told3 .given .1))
     (ap₂ (λ (x : Header) (p : Planes). outcome (given x) p) (h .result-header .ensures) (j .join-planes .ensures))
 
 pub join-vectors-spec : {M : Type 1} → statement M

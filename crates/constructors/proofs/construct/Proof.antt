@@ -2,11 +2,11 @@
 use Rattle.words.specs.Planes.{lent, Planes}
 use Rattle.constructors.proofs.Constructors.{by-check}
 use Rattle.value.specs.declared.Header.{Header}
-use mathlib.Core.Path.{sym, ap, ap₂, _∙_}
+use mathlib.Core.Path.{sym, ap₂, _∙_}
 use native.Mathlib.Omega.{arith}
-use Rattle.refusal.specs.Outcome.{outcome, verdict}
+use Rattle.refusal.specs.Outcome.{outcome}
 use Rattle.refusal.specs.Outcome.Answer.{given}
-use Rattle.value.proofs.Checks.{exactly-accepted}
+use Rattle.value.proofs.Checks.{verdict-told, exactly-accepted}
 use Rattle.value.specs.Checks.{checkOutput}
 use borrow.Author.Needs.{needs}
 use Rattle.constructors.proofs.construct.Statement.{statement}
@@ -17,7 +17,7 @@ unfolding checkOutput
 extend-into-requires c κs =
     let t = c .before .before .before .before in
     let a = t .before .before .before .before .before .before .before .before .args in
-    let l = exactly-accepted _ (lent (a .value .now) (a .unknown .now)) 5 (sym (t .before .before .check-output .ensures) ∙ ap verdict (t .enum-told .given .1)) in
+    let l = exactly-accepted _ (lent (a .value .now) (a .unknown .now)) 5 (verdict-told (t .before .before .check-output .ensures) (t .enum-told .given .1)) in
     (l, (omega arith, omega arith))
 
 returns : tie.Need-returns
@@ -25,7 +25,7 @@ returns c =
     let t = c .before in
     let w = t .before .before .before .before .before in
     let a = w .before .before .before .args in
-    sym (by-check (a .width) (w .cap-width .result) _ (lent (a .value .now) (a .unknown .now)) (w .cap-width .ensures) _ (sym (t .before .before .check-output .ensures) ∙ ap verdict (t .r .given .1)))
+    sym (by-check (a .width) (w .cap-width .result) _ (lent (a .value .now) (a .unknown .now)) (w .cap-width .ensures) _ (verdict-told (t .before .before .check-output .ensures) (t .r .given .1)))
 
 returns-2 : tie.Need-returns-2
 returns-2 c =
@@ -34,7 +34,7 @@ returns-2 c =
     let w = t .before .before .before .before .before in
     let a = w .before .before .before .args in
     ap₂ (λ (h : Header) (p : Planes). outcome (given h) p) (c .plain-header .ensures) (x .extend-into .ensures)
-    ∙ sym (by-check (a .width) (w .cap-width .result) _ (lent (a .value .now) (a .unknown .now)) (w .cap-width .ensures) _ (sym (t .before .before .check-output .ensures) ∙ ap verdict (t .enum-told .given .1)))
+    ∙ sym (by-check (a .width) (w .cap-width .result) _ (lent (a .value .now) (a .unknown .now)) (w .cap-width .ensures) _ (verdict-told (t .before .before .check-output .ensures) (t .enum-told .given .1)))
 
 pub construct-spec : {M : Type 1} → statement M
 construct-spec =

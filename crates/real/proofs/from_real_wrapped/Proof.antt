@@ -3,11 +3,11 @@ use mathlib.Core.Path.{_≡_, sym, ap, ap₂, _∙_}
 use Prim.Native.Nat.{ℕ, _≤_, max}
 use borrow.Author.Tests.{lt-ltb, le-ltb}
 use lib.Ieee.{Float}
-use Rattle.refusal.specs.Outcome.{Answer, outcome, orRefuse, verdict}
+use Rattle.refusal.specs.Outcome.{Answer, outcome, orRefuse}
 use Rattle.refusal.specs.Outcome.Answer.{given}
 use Rattle.words.specs.Planes.{Planes, lent, planesOf}
 use Rattle.value.specs.Checks.{maxWidth}
-use Rattle.value.proofs.Checks.{exactly-accepted}
+use Rattle.value.proofs.Checks.{verdict-told, exactly-accepted}
 use Rattle.value.specs.declared.Header.{Header}
 use Rattle.value.specs.Checks.{plain, checkOutput}
 use Rattle.real.specs.Round.{realVector, fromReal}
@@ -31,14 +31,14 @@ unfolding checkOutput
 write-real-requires c κs =
     let t = c .before .before in
     let a = t .before .before .before .before .before .before .before .before .before .args in
-    exactly-accepted _ (lent (a .value .now) (a .unknown .now)) 5 (sym (t .before .before .check-output .ensures) ∙ ap verdict (t .enum-told .given .1))
+    exactly-accepted _ (lent (a .value .now) (a .unknown .now)) 5 (verdict-told (t .before .before .check-output .ensures) (t .enum-told .given .1))
 
 returns-2 : tie.Need-returns-2
 returns-2 c =
     let t = c .before in
     let w = t .before .before .before .before .before in
     let a = w .before .before .before .before .args in
-    sym (by-check (a .f) (a .width) (w .at-least-one .result) (lent (a .value .now) (a .unknown .now)) (w .before .if1 .left) (w .at-least-one .ensures) _ (sym (t .before .before .check-output .ensures) ∙ ap verdict (t .r .given .1)))
+    sym (by-check (a .f) (a .width) (w .at-least-one .result) (lent (a .value .now) (a .unknown .now)) (w .before .if1 .left) (w .at-least-one .ensures) _ (verdict-told (t .before .before .check-output .ensures) (t .r .given .1)))
 
 returns-3 : tie.Need-returns-3
 returns-3 c =
@@ -47,7 +47,7 @@ returns-3 c =
     let w = t .before .before .before .before .before in
     let a = w .before .before .before .before .args in
     ap₂ (λ (h : Header) (p : Planes). outcome (given h) p) (c .plain-header .ensures) (x .write-real .ensures)
-    ∙ sym (by-check (a .f) (a .width) (w .at-least-one .result) (lent (a .value .now) (a .unknown .now)) (w .before .if1 .left) (w .at-least-one .ensures) _ (sym (t .before .before .check-output .ensures) ∙ ap verdict (t .enum-told .given .1)))
+    ∙ sym (by-check (a .f) (a .width) (w .at-least-one .result) (lent (a .value .now) (a .unknown .now)) (w .before .if1 .left) (w .at-least-one .ensures) _ (verdict-told (t .before .before .check-output .ensures) (t .enum-told .given .1)))
 
 pub from-real-wrapped-spec : {M : Type 1} → statement M
 from-real-wrapped-spec =

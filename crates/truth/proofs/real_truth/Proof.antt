@@ -1,7 +1,6 @@
 -- `truth::real_truth`: refused as checked; the code's 0.0 is a pattern of bits.
-use mathlib.Core.Path.{sym, ap, _∙_}
 use lib.Ieee.{ofBits}
-use Rattle.refusal.specs.Outcome.{verdict}
+use Rattle.value.proofs.Checks.{verdict-told}
 use borrow.Author.Needs.{needs}
 use Rattle.truth.proofs.real_truth.Statement.{statement}
 use Rattle.truth.proofs.real_truth.Tie as tie
@@ -19,18 +18,18 @@ returns : tie.Need-returns
 unfolding ofBits
 returns c =
     let t = c .before in
-    simp (sym (t .before .before .check-operand .ensures) ∙ ap verdict (t .enum-told .given .1), c .if1 .taken)
+    simp (verdict-told (t .before .before .check-operand .ensures) (t .enum-told .given .1), c .if1 .taken)
 
 returns-2 : tie.Need-returns-2
 returns-2 c =
     let t = c .before in
-    simp (sym (t .before .before .check-operand .ensures) ∙ ap verdict (t .r .given .1))
+    simp (verdict-told (t .before .before .check-operand .ensures) (t .r .given .1))
 
 returns-3 : tie.Need-returns-3
 unfolding ofBits
 returns-3 c =
     let t = c .before in
-    simp (sym (t .before .before .check-operand .ensures) ∙ ap verdict (t .enum-told .given .1), c .if1 .left)
+    simp (verdict-told (t .before .before .check-operand .ensures) (t .enum-told .given .1), c .if1 .left)
 
 pub real-truth-spec : {M : Type 1} → statement M
 real-truth-spec =

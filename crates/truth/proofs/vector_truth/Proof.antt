@@ -1,8 +1,6 @@
 -- `truth::vector_truth`: refused as checked, else by the inner function.
-use mathlib.Core.Path.{sym, ap, _∙_}
-use Rattle.refusal.specs.Outcome.{verdict}
 use Rattle.value.specs.Checks.{checkOperand}
-use Rattle.value.proofs.Checks.{vector-accepted}
+use Rattle.value.proofs.Checks.{verdict-told, vector-accepted}
 use borrow.Author.Needs.{needs}
 use Rattle.truth.proofs.vector_truth.Statement.{statement}
 use Rattle.truth.proofs.vector_truth.Tie as tie
@@ -18,20 +16,20 @@ enum-told c = search needs
 
 truth-requires : tie.Need-truth-requires
 truth-requires c κs =
-    let h = vector-accepted _ _ (sym (c .before .before .check-vector .ensures) ∙ ap verdict (c .enum-told .given .1)) .planes in
+    let h = vector-accepted _ _ (verdict-told (c .before .before .check-vector .ensures) (c .enum-told .given .1)) .planes in
     (h .value-plane, h .unknown-plane)
 
 returns : tie.Need-returns
 unfolding checkOperand
 returns c =
     let t = c .before in
-    simp (sym (t .before .before .check-vector .ensures) ∙ ap verdict (t .r .given .1))
+    simp (verdict-told (t .before .before .check-vector .ensures) (t .r .given .1))
 
 returns-2 : tie.Need-returns-2
 unfolding checkOperand
 returns-2 c =
     let t = c .before in
-    simp (sym (t .before .before .check-vector .ensures) ∙ ap verdict (t .enum-told .given .1), c .truth .ensures)
+    simp (verdict-told (t .before .before .check-vector .ensures) (t .enum-told .given .1), c .truth .ensures)
 
 pub vector-truth-spec : {M : Type 1} → statement M
 vector-truth-spec =

@@ -49,37 +49,13 @@ module _ (c : tie.After-ones) where
   number : twosComplement bits (knownOnes (start read .args .value .now) (start read .args .unknown .now)) ≡ vectorInteger (vector (start read .args .h) (lent (start read .args .value .now) (start read .args .unknown .now)))
   number = signed-integer (low read) (c .before .before .before .before .if1 .left) (not-false (start read .args .h .«is_signed») (c .before .before .if2 .left))
 
-shared-slice-read-n : tie.Need-shared-slice-read-n
-shared-slice-read-n c = search needs
-
-shared-slice-read-n-2 : tie.Need-shared-slice-read-n-2
-shared-slice-read-n-2 c = search needs
-
-mul-nearest-u64-to-f64 : tie.Need-mul-nearest-u64-to-f64
-mul-nearest-u64-to-f64 c = search needs
-
-nearest-u64-to-f64-requires : tie.Need-nearest-u64-to-f64-requires
-nearest-u64-to-f64-requires c κs = search needs
-
 returns : tie.Need-returns
 returns c = c .nearest-u64-to-f64 .ensures ∙ ap (ofInt binary64) (fill-integer (low (c .before .before)) (c .before .if1 .taken))
-
-nearest-u64-to-f64-requires-2 : tie.Need-nearest-u64-to-f64-requires-2
-nearest-u64-to-f64-requires-2 c κs = search needs
 
 returns-2 : tie.Need-returns-2
 returns-2 c =
     let s = c .before .before .before .before in
     c .nearest-u64-to-f642 .ensures ∙ ap (ofInt binary64) (unsigned-integer (low s) (c .before .before .before .if1 .left) (not-true _ (c .before .if2 .taken)))
-
-kept-requires : tie.Need-kept-requires
-kept-requires c κs = search needs
-
-ones-requires : tie.Need-ones-requires
-ones-requires c κs = search needs
-
-nearest-u64-to-f64-requires-3 : tie.Need-nearest-u64-to-f64-requires-3
-nearest-u64-to-f64-requires-3 c κs = search needs
 
 returns-3 : tie.Need-returns-3
 returns-3 c =
@@ -88,12 +64,6 @@ returns-3 c =
 
 sub-nearest-i64-to-f64 : tie.Need-sub-nearest-i64-to-f64
 sub-nearest-i64-to-f64 c = omega (arith, all-is (c .before), ones-lt (low (read (c .before))))
-
-cast-nearest-i64-to-f64 : tie.Need-cast-nearest-i64-to-f64
-cast-nearest-i64-to-f64 c = search needs
-
-nearest-i64-to-f64-requires : tie.Need-nearest-i64-to-f64-requires
-nearest-i64-to-f64-requires c κs = search needs
 
 returns-4 : tie.Need-returns-4
 returns-4 c =
@@ -108,18 +78,18 @@ pub vector-real-spec : {M : Type 1} → statement M
 vector-real-spec =
     tie.close
     (tie.spec
-    shared-slice-read-n
-    shared-slice-read-n-2
-    mul-nearest-u64-to-f64
-    nearest-u64-to-f64-requires
+    (λ c. search needs)
+    (λ c. search needs)
+    (λ c. search needs)
+    (λ c κs. search needs)
     returns
-    nearest-u64-to-f64-requires-2
+    (λ c κs. search needs)
     returns-2
-    kept-requires
-    ones-requires
-    nearest-u64-to-f64-requires-3
+    (λ c κs. search needs)
+    (λ c κs. search needs)
+    (λ c κs. search needs)
     returns-3
     sub-nearest-i64-to-f64
-    cast-nearest-i64-to-f64
-    nearest-i64-to-f64-requires
+    (λ c. search needs)
+    (λ c κs. search needs)
     returns-4)
