@@ -81,6 +81,9 @@ vector-accepted h p a = go (checkPlanes (h .width) p) refl (h .«is_fill») refl
     go (given t) ex false ef z _ a =
         record { planes = planes-accepted (h .width) p ex; fill = λ e _. let y : true ≡ false = cc in let q : _≡_ {A = ℕ} 0 1 = cc in omega arith }
 
+pub sound-planes : {h : Header} {p : Planes} → Sound h p → Plane (h .width) (p .value) × Plane (h .width) (p .unknown)
+sound-planes s = (s .planes .value-plane, s .planes .unknown-plane)
+
 -- both operands of an accepted pair are in order
 pub pair-accepted : (a : Header) (p : Planes) (b : Header) (q : Planes) → checkPair a p b q ≡ given tt → Sound a p × Sound b q
 pair-accepted a p b q e = go (checkVector a p) refl e

@@ -4,7 +4,7 @@ use Rattle.refusal.specs.Outcome.Answer.{given}
 use Rattle.words.specs.Planes.{Planes, lent}
 use mathlib.Core.Path.{ap₂}
 use Rattle.refusal.specs.Outcome.{outcome}
-use Rattle.value.proofs.Checks.{verdict-told, vector-accepted}
+use Rattle.value.proofs.Checks.{verdict-told, vector-accepted, sound-planes}
 use borrow.Author.Needs.{needs}
 use Rattle.insert.proofs.splice_bits64.Statement.{statement}
 use Rattle.insert.proofs.splice_bits64.Tie as tie
@@ -13,8 +13,7 @@ splice-bits64-requires : tie.Need-splice-bits64-requires
 splice-bits64-requires c κs =
     let t = c .before .before in
     let a = t .before .before .before .before .before .before .before .args in
-    let p = vector-accepted (a .a) (lent (a .value .now) (a .unknown .now)) (verdict-told (t .before .before .check-vector .ensures) (t .enum-told .given .1)) in
-    (p .planes .value-plane, p .planes .unknown-plane)
+    sound-planes (vector-accepted (a .a) (lent (a .value .now) (a .unknown .now)) (verdict-told (t .before .before .check-vector .ensures) (t .enum-told .given .1)))
 
 returns : tie.Need-returns
 returns c =

@@ -1,13 +1,11 @@
 -- `reduce::reduce_xor`: refused as checked, else by the inner function.
-use Rattle.value.proofs.Checks.{verdict-told, vector-accepted}
+use Rattle.value.proofs.Checks.{verdict-told, vector-accepted, sound-planes}
 use borrow.Author.Needs.{needs}
 use Rattle.reduce.proofs.reduce_xor.Statement.{statement}
 use Rattle.reduce.proofs.reduce_xor.Tie as tie
 
 xor-bits-requires : tie.Need-xor-bits-requires
-xor-bits-requires c κs =
-    let h = vector-accepted _ _ (verdict-told (c .before .before .check-vector .ensures) (c .enum-told .given .1)) .planes in
-    (h .value-plane, h .unknown-plane)
+xor-bits-requires c κs = sound-planes (vector-accepted _ _ (verdict-told (c .before .before .check-vector .ensures) (c .enum-told .given .1)))
 
 returns : tie.Need-returns
 returns c = simp (verdict-told (c .before .before .before .check-vector .ensures) (c .before .r .given .1))

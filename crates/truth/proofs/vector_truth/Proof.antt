@@ -1,6 +1,6 @@
 -- `truth::vector_truth`: refused as checked, else by the inner function.
 use Rattle.value.specs.Checks.{checkOperand}
-use Rattle.value.proofs.Checks.{verdict-told, vector-accepted}
+use Rattle.value.proofs.Checks.{verdict-told, vector-accepted, sound-planes}
 use borrow.Author.Needs.{needs}
 use Rattle.truth.proofs.vector_truth.Statement.{statement}
 use Rattle.truth.proofs.vector_truth.Tie as tie
@@ -15,9 +15,7 @@ enum-told : tie.Need-enum-told
 enum-told c = search needs
 
 truth-requires : tie.Need-truth-requires
-truth-requires c κs =
-    let h = vector-accepted _ _ (verdict-told (c .before .before .check-vector .ensures) (c .enum-told .given .1)) .planes in
-    (h .value-plane, h .unknown-plane)
+truth-requires c κs = sound-planes (vector-accepted _ _ (verdict-told (c .before .before .check-vector .ensures) (c .enum-told .given .1)))
 
 returns : tie.Need-returns
 unfolding checkOperand
