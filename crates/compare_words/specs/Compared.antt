@@ -97,7 +97,7 @@ foundBit Same = One
 abbrev pub placesOver : ℕ → Extent → Planes → Extent → Planes → List (LogicBit × LogicBit)
 placesOver w a p b q = tabulate w (λ i. (extentAt a p i, extentAt b q i))
 
--- ---- what the inner functions give
+-- ---- what the unchecked functions give
 
 -- a one at each of the 64 places of two words that pass the test
 unfoldable pub marked : (LogicBit → LogicBit → Bool) → Word → Word → ℕ

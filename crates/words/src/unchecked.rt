@@ -1,5 +1,5 @@
-// The words of planes: copies, masks, the word of an operand that continues beyond its width, a word that starts at any bit. These ask their caller
-// for planes of the right length.
+// The words of planes: copies, masks, the word of an operand that continues beyond its width, a word that starts at any bit. These ask
+// their caller for planes of the right length.
 use crate::Word;
 use bit::LogicBit;
 ghost use mathlib.Core.Path.{_≡_};

@@ -1,4 +1,4 @@
--- `insert::splice_bits64`: refused as checked, else by the inner function.
+-- `insert::splice_bits64`: refused as checked, else by the unchecked function.
 use mathlib.Core.Bool.{Bool}
 use Rattle.refusal.specs.Outcome.Answer.{given}
 use Rattle.words.specs.Planes.{Planes, lent}

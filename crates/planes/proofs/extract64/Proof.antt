@@ -1,4 +1,4 @@
--- `planes::extract64`: refused as checked, else by the inner function.
+-- `planes::extract64`: refused as checked, else by the unchecked function.
 use Rattle.value.proofs.Checks.{verdict-told, planes-accepted}
 use borrow.Author.Needs.{needs}
 use Rattle.planes.proofs.extract64.Statement.{statement}

@@ -1,4 +1,4 @@
--- `planes::get`: refused as checked, else by the inner function.
+-- `planes::get`: refused as checked, else by the unchecked function.
 use Rattle.value.proofs.Checks.{verdict-told, planes-accepted}
 use borrow.Author.Needs.{needs}
 use Rattle.planes.proofs.get.Statement.{statement}

@@ -1,4 +1,4 @@
--- `planes::splice64`: refused as checked, else by the inner function.
+-- `planes::splice64`: refused as checked, else by the unchecked function.
 use Rattle.refusal.specs.Outcome.Answer.{given}
 use Rattle.words.specs.Planes.{Planes}
 use mathlib.Core.Path.{ap}

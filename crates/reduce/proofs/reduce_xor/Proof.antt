@@ -1,4 +1,4 @@
--- `reduce::reduce_xor`: refused as checked, else by the inner function.
+-- `reduce::reduce_xor`: refused as checked, else by the unchecked function.
 use Rattle.value.proofs.Checks.{verdict-told, vector-accepted, sound-planes}
 use borrow.Author.Needs.{needs}
 use Rattle.reduce.proofs.reduce_xor.Statement.{statement}

@@ -1,4 +1,4 @@
--- `truth::vector_truth`: refused as checked, else by the inner function.
+-- `truth::vector_truth`: refused as checked, else by the unchecked function.
 use Rattle.value.specs.Checks.{checkOperand}
 use Rattle.value.proofs.Checks.{verdict-told, vector-accepted, sound-planes}
 use borrow.Author.Needs.{needs}
