@@ -4,9 +4,10 @@
 // as (0,0), 1 as (1,0), x as (0,1) and z as (1,1); bits at or above the width are 0. A plane has exactly the larger of 1 and width / 64,
 // rounded up, words. Each plane is passed as a pointer and its number of words.
 //
-// Whatever the numbers and words are, a call gives its result, or the number of one refusal and then nothing that it was lent has changed. What
-// C cannot say is asked of the caller: a pointer is not null and points to as many elements as it says, also where that is none; what is
-// written overlaps nothing else that is passed; a bool is false or true.
+// Whatever the numbers and words are, a call gives its result, or the number of one refusal and then nothing that it was lent has changed; the run
+// of a step list, below, keeps what it did before a refusal and writes its output either way. What C cannot say is asked of the caller: a
+// pointer is not null and points to as many elements as it says, also where that is none; what is written overlaps nothing else that is
+// passed; a bool is false or true.
 #ifndef VOWHERUNGA_H
 #define VOWHERUNGA_H
 
@@ -21,7 +22,7 @@ extern "C" {
 enum {
     VOWHERUNGA_MAX_WIDTH = 1048576,   // bits of the widest vector
     VOWHERUNGA_MAX_CELLS = 320,       // places of a store
-    VOWHERUNGA_OUTPUT_BYTES = 1052436 // bytes of the longest output of a run
+    VOWHERUNGA_OUTPUT_BYTES = 1052436 // bytes of the buffer of a run, in which every output has room
 };
 
 // The code of a bit. A truth is false, true or unknown by the codes of 0, 1 and x.
@@ -220,8 +221,8 @@ vowherunga_bit_result vowherunga_logic_or(bool a_is_real, vowherunga_header a, d
                                           const uint64_t *au, size_t au_len, bool b_is_real, vowherunga_header b, double b_real,
                                           const uint64_t *bv, size_t bv_len, const uint64_t *bu, size_t bu_len);
 
-// 0 if some place holds two different known bits, else x if an operand has an unknown bit, else 1. Beside a real a vector is the number of
-// its low 64 bits.
+// 0 if some place holds two different known bits, else x if an operand has an unknown bit, else 1. The shorter vector is extended by its top
+// bit if both are signed, else by 0; a fill is stretched. Beside a real a vector is the number of its low 64 bits.
 vowherunga_bit_result vowherunga_is_equal(bool a_is_real, vowherunga_header a, double a_real, const uint64_t *av, size_t av_len,
                                           const uint64_t *au, size_t au_len, bool b_is_real, vowherunga_header b, double b_real,
                                           const uint64_t *bv, size_t bv_len, const uint64_t *bu, size_t bu_len);
@@ -230,7 +231,7 @@ vowherunga_bit_result vowherunga_is_equal(bool a_is_real, vowherunga_header a, d
 vowherunga_bit_result vowherunga_equal_vectors(vowherunga_header a, const uint64_t *av, size_t av_len, const uint64_t *au, size_t au_len,
                                                vowherunga_header b, const uint64_t *bv, size_t bv_len, const uint64_t *bu, size_t bu_len);
 
-// 1 if the bits are the same, x and z too, else 0.
+// 1 if the bits are the same, x and z too, else 0. Operands are read as in vowherunga_is_equal.
 vowherunga_bit_result vowherunga_case_eq(vowherunga_header a, const uint64_t *av, size_t av_len, const uint64_t *au, size_t au_len,
                                          vowherunga_header b, const uint64_t *bv, size_t bv_len, const uint64_t *bu, size_t bu_len);
 
@@ -243,7 +244,7 @@ vowherunga_bit_result vowherunga_casex_eq(vowherunga_header a, const uint64_t *a
                                           vowherunga_header b, const uint64_t *bv, size_t bv_len, const uint64_t *bu, size_t bu_len);
 
 // Of the places where the right side is known: 0 if one holds two different known bits, else x if the left side has an unknown bit there,
-// else 1.
+// else 1. Operands are extended as in vowherunga_is_equal; a fill is not stretched.
 vowherunga_bit_result vowherunga_wildcard_eq(vowherunga_header a, const uint64_t *av, size_t av_len, const uint64_t *au, size_t au_len,
                                              vowherunga_header b, const uint64_t *bv, size_t bv_len, const uint64_t *bu, size_t bu_len);
 

@@ -147,7 +147,7 @@ pub struct Step {
     pub c: u32,
 }
 
-/// The length of the longest output: 256 cells of 4,096 bits, and a refusal.
+/// The length of the buffer of a run, in which every output has room: 256 cells of 4,096 bits, and a refusal.
 pub const OUTPUT_BYTES: usize = 1_052_436;
 
 /// The store when the run ends, its output, and how it ended.

@@ -56,10 +56,23 @@ fn refusals() {
         assert!(reason.contains(' ') && !reason.contains(&format!("{refusal:?}")), "{text}");
         assert_eq!(ParseError::from(refusal).to_string(), text);
     }
-    assert_eq!(
-        Refusal::StoreFull.to_string(),
-        "refused by 12: all 320 cells of the store are filled"
-    );
+    let told = [
+        "the width is above",
+        "words of its width",
+        "a bit is set",
+        "fill has width 0",
+        "output plane",
+        "step list",
+        "arms",
+        "names a cell",
+        "cells of the store are filled",
+        "too few words",
+        "arenas differ",
+    ];
+    for (refusal, words) in Refusal::ALL.into_iter().zip(told) {
+        let of = Refusal::ALL.into_iter().filter(|r| r.to_string().contains(words));
+        assert_eq!(of.collect::<Vec<_>>(), [refusal], "{words}");
+    }
 }
 
 /// Texts of a width in which each bit stands beside each other one, and at each place.

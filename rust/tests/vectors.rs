@@ -92,7 +92,9 @@ fn of_one() {
         assert_eq!(v.is_nonzero(), reduce::is_nonzero(Operand::Vector(header), value, unknown));
         for i in [0, 1, 3, 63, 64, 128, usize::MAX] {
             assert_eq!(v.get(i), planes::get(width, value, unknown, i));
-            assert_eq!(v.extract64(i, 5), planes::extract64(width, value, unknown, i, 5));
+            for n in [0, 1, 5, 63, 64, 65, usize::MAX] {
+                assert_eq!(v.extract64(i, n), planes::extract64(width, value, unknown, i, n));
+            }
         }
         for words in [value.len(), value.len() + 1] {
             assert_eq!(
@@ -173,18 +175,22 @@ fn in_place<A: PartialEq + std::fmt::Debug>(
 #[test]
 fn of_a_vector_in_place() {
     let bits = Word {
-        value: 0b0110,
-        unknown: 0b0011,
+        value: 0xf0f0_0000_ffff_1236,
+        unknown: 0x8ff0_1111_0ff0_4563,
     };
     for s in samples() {
         for i in [0, 1, 62, 64, usize::MAX] {
             let width = s.header.width;
-            in_place(&s, |v| v.set(i, LogicBit::X), |v, u| planes::set(width, v, u, i, LogicBit::X));
-            in_place(
-                &s,
-                |v| v.splice_bits64(i, bits, 4),
-                |v, u| bitwise::splice_bits64(s.header, v, u, i, bits, 4),
-            );
+            for bit in LogicBit::ALL {
+                in_place(&s, |v| v.set(i, bit), |v, u| planes::set(width, v, u, i, bit));
+            }
+            for n in [0, 1, 4, 63, 64, 65] {
+                in_place(
+                    &s,
+                    |v| v.splice_bits64(i, bits, n),
+                    |v, u| bitwise::splice_bits64(s.header, v, u, i, bits, n),
+                );
+            }
         }
     }
 }

@@ -1,6 +1,6 @@
 # include/vowherunga.h is what the static libraries export. A C program that calls them by it gets the right answers; the header, the binding's
 # declarations and the crates' exports have the same functions, parameters and structs; the archives export these functions and no others; the
-# header's numbers are the binding's.
+# header's numbers are the binding's, and those of refusals and ops the definitions'.
 set -u
 export LC_ALL=C
 header=$ROOT/include/vowherunga.h
@@ -53,7 +53,8 @@ in_c() {
             }
         }'
 }
-flat <"$header" >flat_header
+# the header as a compiler reads it
+gcc -std=c11 -E -P "$header" | sed 's/\b_Bool\b/bool/g' | flat >flat_header
 find "$ROOT/rust/src" -name '*.rs' -exec cat {} + | flat >flat_binding
 find "$ROOT"/crates/*/src -name '*.rt' -exec cat {} + | flat >flat_crates
 
@@ -74,10 +75,16 @@ grep -oE 'VOWHERUNGA_[A-Z0-9_]+ = [0-9]+' flat_header >header_numbers
     }'
 } >binding_numbers
 same header_numbers binding_numbers
+# and those of refusals and ops are the ones of the definitions
+grep -E 'VOWHERUNGA_(REFUSAL|OP)_' header_numbers >header_codes
+sed -nE 's/^refusalNumber (\w+) = ([0-9]+)$/Refusal\1 = \2/p; s/^opCode (\w+) = ([0-9]+)$/Op\1 = \2/p' \
+    "$ROOT/crates/refusal/specs/Refusals.antt" "$ROOT/crates/ops/specs/Names.antt" |
+    sed -E 's/[A-Z]/_&/g; s/^(\w+)/VOWHERUNGA\U\1/' >defined_codes
+same header_codes defined_codes
 sed -n 's/^\(VOWHERUNGA_\)\(MAX_CELLS\|OUTPUT_BYTES\) = \(.*\)/s,\\b\\(\1\\)*\2\\b,\3,g/p' header_numbers >lengths
 
 # ---- functions and structs
-grep -oE '\w+ vowherunga_\w+\([^)]*\);|typedef struct\{[^}]*\} \w+;' flat_header | sed -f lengths >header
+grep -oE '\w+ vowherunga_\w+\([^)]*\);|typedef struct\{[^}]*\} vowherunga_\w+;' flat_header | sed -f lengths >header
 in_c <flat_binding | sed -f lengths >binding
 in_c <flat_crates >crates
 same header binding

@@ -26,7 +26,7 @@ endStep (RefusedAt n step) = step
 abbrev pub refusedWhole : Ending → Bool
 refusedWhole e = eqb (endNumber e) 6
 
--- the fields of the store that a run leaves; a list that is refused whole changes nothing that is lent
+-- the fields of the store that a run leaves; a list that is refused whole leaves them as they were
 abbrev pub savedFields : Ending → Store → Fields → Fields
 savedFields e s f = cond (refusedWhole e) f (fieldsOf s)
 
