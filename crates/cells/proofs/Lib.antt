@@ -1,3 +1,6 @@
+pub mod Answers
 pub mod Spans
 pub mod Tail
-pub mod Named
+pub mod Agreed
+pub mod Walk
+pub mod Places

@@ -1,6 +1,6 @@
 -- Words put into an arena.
 --     tail-back       what an arena holds after its end part was lent to a copying function
---     put-take, put-span, put-length     the words before those put in, those themselves, and how many there are
+--     put-take, put-span, put-drop, put-length     the words before those put in, those themselves, those behind, and how many there are
 --     front-is        the front of a plane is what was put there
 --     front-back      what two planes hold after their first words were lent
 use mathlib.Core.Path.{_≡_, refl, sym, ap, ap₂, _∙_}
@@ -38,6 +38,12 @@ module _ (k : ℕ) (p arena : List ℕ) (h : k + length p ≤ length arena) wher
   put-span =
       ap (λ (x : List ℕ). take (length p) x) (drop-at (take k arena) (p ++ drop (k + length p) arena) k before)
       ∙ take-at p (drop (k + length p) arena) (length p) refl
+
+  pub put-drop : drop (k + length p) (putWords k p arena) ≡ drop (k + length p) arena
+  put-drop =
+      sym (drop-drop (length p) k (putWords k p arena))
+      ∙ ap (λ (x : List ℕ). drop (length p) x) (drop-at (take k arena) (p ++ drop (k + length p) arena) k before)
+      ∙ drop-at p (drop (k + length p) arena) (length p) refl
 
   pub put-length : length (putWords k p arena) ≡ length arena
   put-length =

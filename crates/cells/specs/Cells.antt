@@ -1,20 +1,20 @@
--- Document 01, "Cell store", "Step list" and "Numbers for what is not done": cells whose spans lie one behind the other in two lent arenas, what cells
--- and arenas must agree on, words put into an arena, and the numbers of the cells that a step names.
+-- Document 01, "Cell store" and "Numbers for what is not done": cells whose spans lie one behind the other in two lent arenas, what cells and arenas
+-- must agree on, and words put into an arena.
 use mathlib.Core.Bool.{Bool, true, false, _&&_, cond}
 use mathlib.Core.List.{List, [], _∷_, _++_, map}
 use Prim.Native.Nat.{ℕ, _+_}
-use lib.Dec.{eqb, leb, ltb}
+use lib.Dec.{eqb, leb}
 use lib.ListN.{length, take, drop}
+use Rattle.refusal.specs.Refusals.{refusalNumber}
 use Rattle.refusal.specs.Outcome.{Answer}
 use Rattle.refusal.specs.Outcome.Answer.{given, refused}
 use Rattle.words.specs.Planes.{wordCount, Planes, lent}
 use Rattle.value.specs.declared.Header.{Header}
 use Rattle.value.specs.Checks.{Vector, vector, checkVector}
-use Rattle.ops.specs.declared.Op.{Op}
-use Rattle.ops.specs.declared.Step.{Step}
-use Rattle.ops.specs.Ops.{operands, opVector}
+use Rattle.machine.specs.Machine.{wordsTaken}
 use Rattle.cells.specs.declared.Cell.{Cell}
-use Rattle.cells.specs.declared.Operands.{Operands}
+use Rattle.cells.specs.declared.PlaceAnswer.{PlaceAnswer}
+use Rattle.cells.specs.declared.PlaceAnswer.the-variants as place-answer
 
 -- ---- what a cell holds
 
@@ -35,6 +35,15 @@ cellVector a c = vector (c .header) (cellPlanes a c)
 abbrev pub cellHeaders : List Cell → List Header
 cellHeaders cs = map (λ (c : Cell). c .header) cs
 
+-- the first word behind these cells
+abbrev pub wordBehind : List Cell → ℕ
+wordBehind cs = wordsTaken (cellHeaders cs)
+
+-- the answer in the paper's numbers
+abbrev pub placeAnswer : PlaceAnswer → Answer ℕ
+placeAnswer (place-answer.At n) = given n
+placeAnswer (place-answer.Refused r) = refused (refusalNumber r)
+
 -- ---- 14, cells and arenas disagree
 
 abbrev pub accepts : Answer Unit → Bool
@@ -52,6 +61,13 @@ unfoldable pub cellsAgree : Planes → ℕ → List Cell → Bool
 cellsAgree a k [] = true
 cellsAgree a k (c ∷ cs) = cellAgrees a k c && cellsAgree a (k + cellWords c) cs
 
+-- the first n places are filled: at most 320 cells, arenas of equal length, and spans from word 0 on
+unfoldable pub agree : Planes → List Cell → ℕ → Bool
+agree a cells n = leb n 320 && eqb (length (a .value)) (length (a .unknown)) && cellsAgree a 0 (take n cells)
+
+unfoldable pub checkCells : Planes → List Cell → ℕ → Answer Unit
+checkCells a cells n = cond (agree a cells n) (given tt) (refused 14)
+
 -- ---- words put into an arena
 
 -- the words of p stand from word k on; all other words stay
@@ -60,18 +76,3 @@ putWords k p arena = take k arena ++ (p ++ drop (k + length p) arena)
 
 abbrev pub putPlanes : ℕ → Planes → Planes → Planes
 putPlanes k p a = lent (putWords k (p .value) (a .value)) (putWords k (p .unknown) (a .unknown))
-
--- ---- the cells that a step names
-
--- the op on them, in operand order; insert takes its position
-abbrev pub opCells : Op → Operands → ℕ → Planes → Vector
-opCells op o pos a = opVector op (cellVector a (o .a)) (cellVector a (o .b)) (cellVector a (o .c)) pos
-
--- an operand that the op does not use is ignored: the number of a stands for it
-abbrev pub named : Step → Step
-named s = record {
-  op = s .op;
-  a = s .a;
-  b = cond (ltb (operands (s .op)) 2) (s .a) (s .b);
-  c = cond (ltb (operands (s .op)) 3) (s .a) (s .c);
-}

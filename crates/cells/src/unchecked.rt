@@ -1,22 +1,54 @@
-// A cell's words and their check, and the cells that a step names. Most of these ask their caller for what a
-// check has found.
+// A cell's words, the check of cells, and words put behind the last cell. Most of these ask their caller for what a check has found.
 use crate::Cell;
-use crate::Operands;
-use ops::Op;
-use ops::Step;
-use ops::operand_count;
+use crate::PlaceAnswer;
+use refusal::Refusal;
 use refusal::Verdict;
 use value::Header;
 use value::check_vector;
+use words::unchecked::copy_front;
 use words::word_count;
-use work::unchecked::work;
 ghost use mathlib.Core.Path.{_≡_};
-ghost use mathlib.Core.Bool.{true, false};
-ghost use Prim.Native.Nat.{_≤_, _+_};
-ghost use lib.ListN.{length};
-ghost use Rattle.words.specs.Planes.{wordCount, lentBy, planesOf};
-ghost use Rattle.ops.specs.Ops.{armsRefused, opHeader};
-ghost use Rattle.cells.specs.Cells.{cellWords, span, cellAgrees, putPlanes, opCells, named};
+ghost use Prim.Native.Nat.{_≤_, _<_, _+_};
+ghost use lib.ListN.{length, take};
+ghost use Rattle.refusal.specs.Outcome.{after};
+ghost use Rattle.refusal.specs.Outcome.Answer.{given};
+ghost use Rattle.words.specs.Planes.{lent, lentBy};
+ghost use Rattle.cells.specs.Places.{fieldsBy, headerOf, cellOf};
+ghost use Rattle.cells.specs.Cells.{cellWords, span, wordBehind, cellAgrees, checkCells, placeAnswer, putPlanes};
+
+// The header of the cell at place i.
+pub fn header_at<'a>(
+    i: usize,
+    widths: &'a [u32; 320],
+    signs: &'a [bool; 320],
+    fills: &'a [bool; 320],
+) -> Header
+    requires { ⌜ i < 320 ⌝ }
+    ensures { λ r. ⌜ r ≡ headerOf (now (widths .entry)) (now (signs .entry)) (now (fills .entry)) i ⌝ }
+{
+    Header {
+        width: widths[i],
+        is_signed: signs[i],
+        is_fill: fills[i],
+    }
+}
+
+// The cell at place i.
+pub fn cell_at<'a>(
+    i: usize,
+    starts: &'a [usize; 320],
+    widths: &'a [u32; 320],
+    signs: &'a [bool; 320],
+    fills: &'a [bool; 320],
+) -> Cell
+    requires { ⌜ i < 320 ⌝ }
+    ensures { λ r. ⌜ r ≡ cellOf (fieldsBy (starts .entry) (widths .entry) (signs .entry) (fills .entry)) i ⌝ }
+{
+    Cell {
+        start: starts[i],
+        header: header_at(i, widths, signs, fills),
+    }
+}
 
 // A cell's words in an arena.
 pub fn cell_words(c: Cell, arena: &[u64]) -> &[u64]
@@ -47,73 +79,42 @@ pub fn cell_agrees(c: Cell, at: usize, value: &[u64], unknown: &[u64]) -> bool
     }
 }
 
-// The step, where the number of its first operand stands for each operand that its op does not use.
-pub fn named(step: Step) -> Step
-    ensures { λ r. ⌜ r ≡ named step ⌝ }
+// The word behind the first `count` of 320 cells, or 14 if the cells and their arenas disagree.
+pub fn check_cells(cells: [Cell; 320], count: usize, value: &[u64], unknown: &[u64]) -> PlaceAnswer
+    ensures { λ r. ⌜ placeAnswer r
+        ≡ after (checkCells (lentBy (value .entry) (unknown .entry)) cells count) (given (wordBehind (take count cells))) ⌝ }
 {
-    let op = step.op;
-    let n = operand_count(op);
-    if n < 2 {
-        Step {
-            op: op,
-            a: step.a,
-            b: step.a,
-            c: step.a,
-        }
-    } else if n < 3 {
-        Step {
-            op: op,
-            a: step.a,
-            b: step.b,
-            c: step.a,
-        }
-    } else {
-        step
+    if (320 < count) | (value.len() != unknown.len()) {
+        return PlaceAnswer::Refused(Refusal::BadStore);
     }
+    let mut at = 0;
+    let mut i = 0;
+    while i < count {
+        let c = cells[i];
+        if !cell_agrees(c, at, value, unknown) {
+            return PlaceAnswer::Refused(Refusal::BadStore);
+        }
+        let h = c.header;
+        at += word_count(h.width);
+        i += 1;
+    }
+    PlaceAnswer::At(at)
 }
 
-// The op on three cells, its result of the header h put in the first words of two planes.
-pub fn work_cells(
-    op: Op,
-    o: Operands,
-    h: Header,
-    pos: usize,
-    arena_value: &[u64],
-    arena_unknown: &[u64],
-    ov: &mut [u64],
-    ou: &mut [u64],
+// Copies the first n words of two planes into the arenas, from word `at` on: the end part of each arena is lent to the copying function.
+pub fn copy_behind(
+    at: usize,
+    n: usize,
+    value: &[u64],
+    unknown: &[u64],
+    av: &mut [u64],
+    au: &mut [u64],
 )
-    requires { ⌜ length (now «arena_value») ≡ length (now «arena_unknown») ⌝ }
-    requires { ⌜ cellAgrees (lentBy «arena_value» «arena_unknown») (o .a .start) (o .a) ≡ true ⌝ }
-    requires { ⌜ cellAgrees (lentBy «arena_value» «arena_unknown») (o .b .start) (o .b) ≡ true ⌝ }
-    requires { ⌜ cellAgrees (lentBy «arena_value» «arena_unknown») (o .c .start) (o .c) ≡ true ⌝ }
-    requires { ⌜ armsRefused op (o .b .header) (o .c .header) ≡ false ⌝ }
-    requires { ⌜ h ≡ opHeader op (o .a .header) (o .b .header) (o .c .header) ⌝ }
-    requires { ⌜ (wordCount (h .width) ≤ length (now ov)) × (wordCount (h .width) ≤ length (now ou)) ⌝ }
-    ensures { λ _. ⌜ lentBy (ov .exit) (ou .exit)
-        ≡ putPlanes 0 (planesOf (opCells op o pos (lentBy («arena_value» .entry) («arena_unknown» .entry)) .bits))
-        (lentBy (ov .entry) (ou .entry)) ⌝ }
+    requires { ⌜ (n ≤ length (now value)) × (n ≤ length (now unknown)) ⌝ }
+    requires { ⌜ (at + n ≤ length (now av)) × (at + n ≤ length (now au)) ⌝ }
+    ensures { λ _. ⌜ lentBy (av .exit) (au .exit)
+        ≡ putPlanes at (lent (take n (now (value .entry))) (take n (now (unknown .entry)))) (lentBy (av .entry) (au .entry)) ⌝ }
 {
-    let n = word_count(h.width);
-    let av = cell_words(o.a, arena_value);
-    let au = cell_words(o.a, arena_unknown);
-    let bv = cell_words(o.b, arena_value);
-    let bu = cell_words(o.b, arena_unknown);
-    let cv = cell_words(o.c, arena_value);
-    let cu = cell_words(o.c, arena_unknown);
-    work(
-        op,
-        o.a.header,
-        av,
-        au,
-        o.b.header,
-        bv,
-        bu,
-        o.c.header,
-        cv,
-        cu,
-        pos,
-        &mut ov[0..n],
-        &mut ou[0..n],
-    );
+    copy_front(&mut av[at..], value, n);
+    copy_front(&mut au[at..], unknown, n);
 }

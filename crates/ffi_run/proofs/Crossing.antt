@@ -9,8 +9,8 @@ use Rattle.store.specs.declared.Store.{Store}
 use Rattle.store.specs.Store.{state}
 use Rattle.store.specs.Step.{memory}
 use Rattle.steps.specs.Run.{Final, final}
-use Rattle.store_abi.specs.declared.Fields.{Fields}
-use Rattle.store_abi.specs.Fields.{settled, crossed}
+use Rattle.cells.specs.declared.Fields.{Fields}
+use Rattle.store_abi.specs.Settled.{settled, crossed}
 use Rattle.ffi_run.specs.declared.RunResult.{RunResult}
 use Rattle.ffi_run.specs.Crossing.{runResult, savedFields, crossedRun}
 

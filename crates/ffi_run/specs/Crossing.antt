@@ -8,8 +8,9 @@ use Rattle.words.specs.Planes.{Planes}
 use Rattle.machine.specs.Machine.{Ending, AtEnd, RefusedAt}
 use Rattle.store.specs.declared.Store.{Store}
 use Rattle.steps.specs.Run.{Final}
-use Rattle.store_abi.specs.declared.Fields.{Fields}
-use Rattle.store_abi.specs.Fields.{fieldsOf, settled, Crossed, crossed}
+use Rattle.cells.specs.declared.Fields.{Fields}
+use Rattle.cells.specs.Places.{fieldsOf}
+use Rattle.store_abi.specs.Settled.{settled, Crossed, crossed}
 use Rattle.ffi_run.specs.declared.RunResult.{RunResult}
 
 -- 0 where every step was run, or the refusal's number
@@ -28,7 +29,7 @@ refusedWhole e = eqb (endNumber e) 6
 
 -- the fields of the store that a run leaves; a list that is refused whole leaves them as they were
 abbrev pub savedFields : Ending → Store → Fields → Fields
-savedFields e s f = cond (refusedWhole e) f (fieldsOf s)
+savedFields e s f = cond (refusedWhole e) f (fieldsOf (s .cells))
 
 -- the cells of the store, the bytes written and how the run ended
 abbrev pub runResult : Store → ℕ → Ending → RunResult

@@ -7,7 +7,8 @@ ghost use mathlib.Core.Path.{_≡_};
 ghost use Rattle.words.specs.Planes.{lentBy};
 ghost use Rattle.lines.specs.Buffer.{buffer};
 ghost use Rattle.steps.specs.Run.{endingOf, runText, finalOf};
-ghost use Rattle.store_abi.specs.Fields.{fieldsBy, settled, crossed};
+ghost use Rattle.cells.specs.Places.{fieldsBy};
+ghost use Rattle.store_abi.specs.Settled.{settled, crossed};
 ghost use Rattle.ffi_run.specs.Crossing.{endNumber, endStep, savedFields, crossedRun};
 
 // 0 where every step was run, or the refusal's number.

@@ -12,8 +12,9 @@ use Rattle.store.specs.declared.Store.{Store}
 use Rattle.store.specs.Store.{State, state, addInput}
 use Rattle.store.specs.Step.{Memory, memory, addStep}
 use Rattle.store_abi.specs.declared.CellResult.{CellResult}
-use Rattle.store_abi.specs.declared.Fields.{Fields}
-use Rattle.store_abi.specs.Fields.{Settled, settled, settledBy, crossed, storeOf, noSuchOp}
+use Rattle.cells.specs.declared.Fields.{Fields}
+use Rattle.store.specs.Store.{storeOf}
+use Rattle.store_abi.specs.Settled.{Settled, settled, settledBy, crossed, noSuchOp}
 use Rattle.ffi_store.specs.Crossing.{crossedInput, addStepOf, crossedStep}
 
 abbrev stepOf : Op → ℕ → ℕ → ℕ → Step

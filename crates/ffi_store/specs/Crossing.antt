@@ -8,8 +8,8 @@ use Rattle.ops.specs.declared.OpAnswer.the-variants as op-answer
 use Rattle.store.specs.Store.{State}
 use Rattle.store.specs.Step.{Memory, addStep}
 use Rattle.store_abi.specs.declared.CellResult.{CellResult}
-use Rattle.store_abi.specs.declared.Fields.{Fields}
-use Rattle.store_abi.specs.Fields.{noSuchOp, settledBy, Crossed, crossed}
+use Rattle.cells.specs.declared.Fields.{Fields}
+use Rattle.store_abi.specs.Settled.{noSuchOp, settledBy, Crossed, crossed}
 
 -- what `add_input` does to the store that the fields f say
 abbrev pub crossedInput : Fields → Outcome ℕ State → Crossed CellResult Planes

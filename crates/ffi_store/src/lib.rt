@@ -3,8 +3,8 @@
 use ops::OpAnswer;
 use ops::Step;
 use ops::op_of;
+use store::unchecked::store_of;
 use store_abi::CellResult;
-use store_abi::load;
 use store_abi::settle;
 use value::Header;
 ghost use mathlib.Core.Path.{_≡_};
@@ -12,7 +12,9 @@ ghost use Rattle.words.specs.Planes.{lentBy};
 ghost use Rattle.ops.specs.Names.{opOf};
 ghost use Rattle.store.specs.Store.{stateBy, addInput};
 ghost use Rattle.store.specs.Step.{memoryBy};
-ghost use Rattle.store_abi.specs.Fields.{fieldsBy, storeOf, settled, crossed};
+ghost use Rattle.cells.specs.Places.{fieldsBy};
+ghost use Rattle.store.specs.Store.{storeOf};
+ghost use Rattle.store_abi.specs.Settled.{settled, crossed};
 ghost use Rattle.ffi_store.specs.Crossing.{crossedInput, addStepOf, crossedStep};
 
 // `Store::add_input` on the store of `count` cells that the four arrays say; where it is done, the store has one cell more
@@ -37,7 +39,7 @@ pub extern "C" fn vowherunga_add_input(
         («arena_value» .entry) («arena_unknown» .entry))
         h (lentBy (value .entry) (unknown .entry))) ⌝ }
 {
-    let s = load(count, starts, widths, signs, fills);
+    let s = store_of(count, starts, widths, signs, fills);
     let r = s.add_input(h, value, unknown, arena_value, arena_unknown);
     settle(r, starts, widths, signs, fills)
 }
@@ -73,7 +75,7 @@ pub extern "C" fn vowherunga_add_step(
             cell: 0,
         },
         OpAnswer::Op(o) => {
-            let s = load(count, starts, widths, signs, fills);
+            let s = store_of(count, starts, widths, signs, fills);
             let step = Step {
                 op: o,
                 a: a,

@@ -1,9 +1,9 @@
 -- What the two tables of ops leave out, and what exactness rules out.
---     left-out       an op is left out exactly if it loses a known bit in some run, and if it is not exact in some step that is run, on comparable
---                    operands if it is an equality
+--     left-out       an op is left out exactly if it loses a known bit in some run, and if it is not exact in some step that is run, on
+--                    comparable operands if it is an equality
 --     signed-inexact, fill-inexact     equalities that are not exact since one unknown bit stands at several places
---     exact-fixes    two cells that are both exact have the same known bits at the places that both have; with `step-exact`, a module that gives x
---                    where these definitions give 0 or 1 is not exact
+--     exact-fixes    two vectors that are both exact have the same known bits at the places that both have; with `step-exact`, a module that
+--                    gives x where these definitions give 0 or 1 is not exact
 use mathlib.Core.Path.{_≡_, refl, sym, _∙_, subst, ap₂}
 use mathlib.Core.Bool.{Bool, true, false, not, _&&_}
 use mathlib.Core.Logic.{inl, inr, _↔_, _≢_, Iff·symm, Iff·trans}
@@ -24,7 +24,8 @@ use Rattle.compare_words.specs.Compared.{compared}
 use Rattle.ops.specs.declared.Op.{Op}
 use Rattle.ops.specs.declared.Op.the-variants.{And, Or, Xor, Not, Merge, ReduceAnd, ReduceOr, ReduceXor, Equal, CaseEqual, CasezEqual, CasexEqual, WildcardEqual, LogicAnd, LogicOr, Select, Insert}
 use Rattle.ops.specs.declared.Step.{Step}
-use Rattle.machine.specs.Machine.{Room, headersOf, cellAt, wordsTaken, checkStep, stepCell, runFrom, machineRun}
+use Rattle.machine.specs.declared.Room.{Room}
+use Rattle.machine.specs.Machine.{Cell, headersOf, vectorAt, wordsTaken, checkStep, stepCell, runFrom, inputCells, machineRun}
 use Rattle.knownness.specs.Knownness.{keepsKnown, isExact, AllKeep, Known, Refines, Completes, Pointwise, Cellwise, AllSound, gives, AllGive, ExactStep, Loses, Inexact, LeftOut}
 use Rattle.knownness.proofs.Runs.{step-exact, alike}
 
@@ -33,11 +34,11 @@ use Rattle.knownness.proofs.Runs.{step-exact, alike}
 pair : LogicBit → LogicBit → Vector
 pair a b = record { header = plain 2; bits = a ∷ b ∷ [] }
 
-unknown : List Vector
-unknown = pair X Z ∷ pair X Z ∷ []
+unknown : List Cell
+unknown = inputCells (pair X Z ∷ pair X Z ∷ [])
 
-apart : List Vector
-apart = pair Zero Zero ∷ pair One One ∷ []
+apart : List Cell
+apart = inputCells (pair Zero Zero ∷ pair One One ∷ [])
 
 abbrev of : Op → Step
 of op = record { op = op; a = 0; b = 1; c = 0 }
@@ -45,8 +46,8 @@ of op = record { op = op; a = 0; b = 1; c = 0 }
 room : Room
 room = record { arena = 3; scratch = 1 }
 
-made : Op → List Vector → LogicBit
-made op cs = at (cellAt (machineRun room cs (of op ∷ []) .cells) 2 .bits) 0
+made : Op → List Cell → LogicBit
+made op cs = at (vectorAt (machineRun room cs (of op ∷ []) .cells) 2 .bits) 0
 
 -- what holds of x and b, of z and b and of 0 and 0 holds at each place of zx and bb
 made-known : (R : LogicBit → LogicBit → Type 0) → R Zero Zero → (b : LogicBit) → R X b → R Z b → Pointwise R (pair X Z) (pair b b)
@@ -68,7 +69,7 @@ refines : Cellwise Refines unknown apart
 unfolding unknown apart
 refines = (refl, go)
   where
-    go : (j : ℕ) → Pointwise Refines (cellAt unknown j) (cellAt apart j)
+    go : (j : ℕ) → Pointwise Refines (vectorAt unknown j) (vectorAt apart j)
     go zero = made-known Refines (inl refl) Zero (inr (tt, tt)) (inr (tt, tt))
     go (suc zero) = made-known Refines (inl refl) One (inr (tt, tt)) (inr (tt, tt))
     go (suc (suc j)) = (refl, refl, λ i. inl refl)
@@ -82,7 +83,7 @@ lost : (op : Op) → made op unknown ≡ One → made op apart ≡ Zero → Lose
 unfolding made
 lost op e f = record {
   room = room;
-  inputs = unknown;
+  cells = unknown;
   refined = apart;
   step = of op;
   by = refl;
@@ -94,7 +95,8 @@ lost op e f = record {
   changes = λ q. one-not-zero (sym f ∙ q ∙ e);
 }
 
-not-exact : (op : Op) → checkStep room (headersOf unknown) (of op) ≡ given tt → op ≢ Equal → 0 < length (stepCell unknown (of op) .bits) → at (stepCell unknown (of op) .bits) 0 ≡ One
+not-exact : (op : Op) → checkStep room (headersOf unknown) (of op) ≡ given tt → op ≢ Equal
+    → 0 < length (stepCell unknown (of op) .vector .bits) → at (stepCell unknown (of op) .vector .bits) 0 ≡ One
     → gives op 0 false (pair Zero Zero) (pair One One) (pair Zero Zero) 0 ≡ Zero → Inexact op
 unfolding unknown
 not-exact op a n l e f = record {
@@ -166,7 +168,7 @@ one-kept s t (suc k) = tt
 none-lost : (op : Op) → Loses op → ¬ (T (keepsKnown op))
 none-lost op l t =
     l .changes
-    (alike (l .room) (l .inputs) (l .refined) (l .step ∷ []) (l .sound) (l .refines) .kept
+    (alike (l .room) (l .cells) (l .refined) (l .step ∷ []) (l .sound) (l .refines) .kept
     (one-kept (l .step) (subst (λ (o : Op). T (keepsKnown o)) (sym (l .by)) t)) .1 (l .cell) .2 (l .place) (l .known-bit))
 
 none-inexact : (op : Op) → Inexact op → ¬ (T (isExact op))
@@ -198,14 +200,14 @@ by-bits : (v a : Vector) → Pointwise Completes v a → (bs : List LogicBit) �
 by-bits v a h bs e f = λ k. record { header = h .0 k; bits = same-list bs (a .bits) (h .1 ∙ sym e) f k }
 
 -- the equality of the first two cells is not known exactly
-abbrev InexactEqual : List Vector → Type 0
-InexactEqual cs = ¬ (ExactStep cs (of Equal) (stepCell cs (of Equal)))
+abbrev InexactEqual : List Cell → Type 0
+InexactEqual cs = ¬ (ExactStep cs (of Equal) (stepCell cs (of Equal) .vector))
 
 -- an operand with one unknown bit, beside a known one: x, though 0 for both completions
 module _ (f : LogicBit → Vector) (b : Vector) (completed : (a : Vector) → Pointwise Completes (f X) a → (p : LogicBit) × Known p × (a ≡ f p))
     (only : (d : Vector) → Pointwise Completes b d → d ≡ b) where
   one-unknown : compared comparison.Equal (f X) b ≡ X → compared comparison.Equal (f Zero) b ≡ Zero → compared comparison.Equal (f One) b ≡ Zero
-      → InexactEqual (f X ∷ b ∷ [])
+      → InexactEqual (inputCells (f X ∷ b ∷ []))
   one-unknown x z o e = zero-not-x (sym (e 0 (omega arith) Zero tt .1 all-zero) ∙ x)
     where
       zero-not-x : _≢_ {A = LogicBit} Zero X
@@ -217,7 +219,7 @@ module _ (f : LogicBit → Vector) (b : Vector) (completed : (a : Vector) → Po
       known-zero X k = absurd k
       known-zero Z k = absurd k
 
-      all-zero : AllGive (f X ∷ b ∷ []) (of Equal) 0 Zero
+      all-zero : AllGive (inputCells (f X ∷ b ∷ [])) (of Equal) 0 Zero
       all-zero a d c ha hd hc second =
           let w = completed a ha in
           ap₂ (compared comparison.Equal) (w .2) (only d hd) ∙ known-zero (w .0) (w .1)
@@ -243,7 +245,7 @@ abbrev fillBits : List LogicBit → Vector
 fillBits bs = record { header = record { width = length bs; «is_signed» = false; «is_fill» = true }; bits = bs }
 
 -- signed x0 beside signed 0100 (document 01, "Cases on either side")
-pub signed-inexact : InexactEqual (signedBits (Zero ∷ X ∷ []) ∷ signedBits (Zero ∷ Zero ∷ One ∷ Zero ∷ []) ∷ [])
+pub signed-inexact : InexactEqual (inputCells (signedBits (Zero ∷ X ∷ []) ∷ signedBits (Zero ∷ Zero ∷ One ∷ Zero ∷ []) ∷ []))
 unfolding tabulate allKnown
 signed-inexact =
     let b = signedBits (Zero ∷ Zero ∷ One ∷ Zero ∷ []) in
@@ -258,7 +260,7 @@ signed-inexact =
         each (suc (suc i)) = h .2 (suc (suc i)) .1 tt
 
 -- a fill x beside 01
-pub fill-inexact : InexactEqual (fillBits (X ∷ []) ∷ record { header = plain 2; bits = One ∷ Zero ∷ [] } ∷ [])
+pub fill-inexact : InexactEqual (inputCells (fillBits (X ∷ []) ∷ record { header = plain 2; bits = One ∷ Zero ∷ [] } ∷ []))
 unfolding tabulate allKnown
 fill-inexact =
     let b : Vector = record { header = plain 2; bits = One ∷ Zero ∷ [] } in
@@ -273,6 +275,6 @@ fill-inexact =
 
 -- ---- exactness fixes the known bits
 
-pub exact-fixes : (cs : List Vector) (s : Step) (c d : Vector) → ExactStep cs s c → ExactStep cs s d
+pub exact-fixes : (cs : List Cell) (s : Step) (c d : Vector) → ExactStep cs s c → ExactStep cs s d
     → (i : ℕ) → i < length (c .bits) → i < length (d .bits) → (v : LogicBit) → Known v → (at (c .bits) i ≡ v) ↔ (at (d .bits) i ≡ v)
 exact-fixes cs s c d f g i l m v k = Iff·trans (f i l v k) (Iff·symm (g i m v k))

@@ -17,29 +17,29 @@ use lib.ListN.{length, List·getD-map}
 use Rattle.refusal.specs.Outcome.{Answer, after}
 use Rattle.refusal.specs.Outcome.Answer.{given, refused}
 use Rattle.value.specs.declared.Header.{Header}
-use Rattle.value.specs.Checks.{Vector}
 use Rattle.ops.specs.declared.Step.{Step}
 use Rattle.ops.specs.declared.Family.{Family}
 use Rattle.ops.specs.declared.Family.the-variants as family
 use Rattle.ops.specs.Ops.{familyOf, armsRefused, familyHeader, opHeader}
 use Rattle.ops.proofs.Results.{result-width}
-use Rattle.machine.specs.Machine.{Room, headersOf, noVector, cellAt, headerAt, checkCount, checkNames, checkRoom, checkScratch, stepHeader, checkStep, stepCell, Run, onward, runFrom}
+use Rattle.machine.specs.declared.Room.{Room}
+use Rattle.machine.specs.Machine.{Cell, headersOf, emptyCell, cellAt, vectorAt, headerAt, wordsTaken, checkCount, checkNames, checkRoom, checkScratch, stepHeader, checkStep, stepCell, Run, onward, runFrom}
 use Rattle.knownness.specs.Knownness.{AllSound, NoFill}
 
 -- ---- headers
 
-pub header-at : (cs : List Vector) (j : ℕ) → headerAt (headersOf cs) j ≡ cellAt cs j .header
-header-at cs j = List·getD-map (λ (c : Vector). c .header) cs j noVector
+pub header-at : (cs : List Cell) (j : ℕ) → headerAt (headersOf cs) j ≡ vectorAt cs j .header
+header-at cs j = List·getD-map (λ (c : Cell). c .vector .header) cs j emptyCell
 
 -- the cells and one more
-abbrev pub more : List Vector → Step → List Vector
+abbrev pub more : List Cell → Step → List Cell
 more cs s = cs ++ (stepCell cs s ∷ [])
 
-pub headers-more : (cs : List Vector) (c : Vector) → headersOf (cs ++ (c ∷ [])) ≡ headersOf cs ++ (c .header ∷ [])
+pub headers-more : (cs : List Cell) (c : Cell) → headersOf (cs ++ (c ∷ [])) ≡ headersOf cs ++ (c .vector .header ∷ [])
 headers-more [] c = refl
-headers-more (x ∷ xs) c = ap {B = List Header} (λ l. x .header ∷ l) (headers-more xs c)
+headers-more (x ∷ xs) c = ap {B = List Header} (λ l. x .vector .header ∷ l) (headers-more xs c)
 
-pub headers-step : (cs : List Vector) (s : Step) → headersOf (more cs s) ≡ headersOf cs ++ (stepHeader (headersOf cs) s ∷ [])
+pub headers-step : (cs : List Cell) (s : Step) → headersOf (more cs s) ≡ headersOf cs ++ (stepHeader (headersOf cs) s ∷ [])
 headers-step cs s =
     headers-more cs (stepCell cs s)
     ∙ (λ k. headersOf cs ++ (opHeader (s .op) (sym (header-at cs (s .a)) k) (sym (header-at cs (s .b)) k) (sym (header-at cs (s .c)) k) ∷ []))
@@ -57,20 +57,20 @@ arms-of (given t) (refused n) z w e = absurd e
 arms-of (given t) (given u) true w e = absurd e
 arms-of (given t) (given u) false w e = refl
 
-pub arms-accepted : (r : Room) (cs : List Vector) (s : Step) (u : Unit) → checkStep r (headersOf cs) s ≡ given u
-    → armsRefused (s .op) (cellAt cs (s .b) .header) (cellAt cs (s .c) .header) ≡ false
+pub arms-accepted : (r : Room) (cs : List Cell) (s : Step) (u : Unit) → checkStep r (headersOf cs) s ≡ given u
+    → armsRefused (s .op) (vectorAt cs (s .b) .header) (vectorAt cs (s .c) .header) ≡ false
 unfolding checkStep passed
 arms-accepted r cs s u e =
     let hs : List Header = headersOf cs in
     let w : ℕ = stepHeader hs s .width in
     (λ k. armsRefused (s .op) (sym (header-at cs (s .b)) k) (sym (header-at cs (s .c)) k))
-    ∙ arms-of (checkCount hs) (checkNames hs s) (armsRefused (s .op) (headerAt hs (s .b)) (headerAt hs (s .c)))
-    (after (checkRoom r hs w) (checkScratch r w)) (subst (λ (x : Answer Unit). T (passed x)) (sym e) tt)
+    ∙ arms-of (checkCount (length hs)) (checkNames (length hs) s) (armsRefused (s .op) (headerAt hs (s .b)) (headerAt hs (s .c)))
+    (after (checkRoom r (wordsTaken hs) w) (checkScratch r w)) (subst (λ (x : Answer Unit). T (passed x)) (sym e) tt)
 
 module _ (r : Room) where
   -- ---- endings
 
-  pub same-ending : (ss : List Step) (n : ℕ) (cs ds : List Vector) → headersOf ds ≡ headersOf cs → runFrom r ds n ss .ending ≡ runFrom r cs n ss .ending
+  pub same-ending : (ss : List Step) (n : ℕ) (cs ds : List Cell) → headersOf ds ≡ headersOf cs → runFrom r ds n ss .ending ≡ runFrom r cs n ss .ending
   unfolding runFrom
   same-ending [] n cs ds e = refl
   same-ending (s ∷ ss) n cs ds e =
@@ -88,17 +88,17 @@ module _ (r : Room) where
 
   -- ---- the cells of a run
 
-  pub prefix : (ss : List Step) (n : ℕ) (cs : List Vector) → (rest : List Vector) × (runFrom r cs n ss .cells ≡ cs ++ rest)
+  pub prefix : (ss : List Step) (n : ℕ) (cs : List Cell) → (rest : List Cell) × (runFrom r cs n ss .cells ≡ cs ++ rest)
   unfolding runFrom
   prefix [] n cs = ([], sym (append-nil cs))
   prefix (s ∷ ss) n cs = go (runFrom r (more cs s) (suc n) ss) (checkStep r (headersOf cs) s) (prefix ss (suc n) (more cs s))
     where
-      go : (p : Run) (o : Answer Unit) → (rest : List Vector) × (p .cells ≡ more cs s ++ rest) → (rest : List Vector) × (onward o cs n p .cells ≡ cs ++ rest)
+      go : (p : Run) (o : Answer Unit) → (rest : List Cell) × (p .cells ≡ more cs s ++ rest) → (rest : List Cell) × (onward o cs n p .cells ≡ cs ++ rest)
       go p (given u) t = (stepCell cs s ∷ t .0, t .1 ∙ append-assoc cs (stepCell cs s ∷ []) (t .0))
       go p (refused x) t = ([], sym (append-nil cs))
 
--- what holds of two lists of cells, cell by cell, holds with one more on each; of noVector too, since a cell is read beyond the end
-pub at-more : (R : Vector → Vector → Type 0) → R noVector noVector → (cs ds : List Vector) (c d : Vector) → length ds ≡ length cs
+-- what holds of two lists of cells, cell by cell, holds with one more on each; of emptyCell too, since a cell is read beyond the end
+pub at-more : (R : Cell → Cell → Type 0) → R emptyCell emptyCell → (cs ds : List Cell) (c d : Cell) → length ds ≡ length cs
     → ((j : ℕ) → R (cellAt cs j) (cellAt ds j)) → R c d → (j : ℕ) → R (cellAt (cs ++ (c ∷ [])) j) (cellAt (ds ++ (d ∷ [])) j)
 at-more R z [] [] c d e h p zero = p
 at-more R z [] [] c d e h p (suc j) = z
@@ -108,15 +108,15 @@ at-more R z (x ∷ xs) (y ∷ ys) c d e h p zero = h zero
 at-more R z (x ∷ xs) (y ∷ ys) c d e h p (suc j) = at-more R z xs ys c d (omega arith) (λ i. h (suc i)) p j
 
 -- what holds of each cell, and of each that a step makes of such cells, holds of every cell of a run
-module _ (P : Vector → Type 0) (none : P noVector) where
-  abbrev pub All : List Vector → Type 0
+module _ (P : Cell → Type 0) (none : P emptyCell) where
+  abbrev pub All : List Cell → Type 0
   All cs = (j : ℕ) → P (cellAt cs j)
 
-  pub all-more : (cs : List Vector) (c : Vector) → All cs → P c → All (cs ++ (c ∷ []))
+  pub all-more : (cs : List Cell) (c : Cell) → All cs → P c → All (cs ++ (c ∷ []))
   all-more cs c h p = at-more (λ x y. P x) none cs cs c c refl h p
 
-  module _ (r : Room) (step : (cs : List Vector) (s : Step) (u : Unit) → checkStep r (headersOf cs) s ≡ given u → All cs → P (stepCell cs s)) where
-    pub run-all : (ss : List Step) (n : ℕ) (cs : List Vector) → All cs → All (runFrom r cs n ss .cells)
+  module _ (r : Room) (step : (cs : List Cell) (s : Step) (u : Unit) → checkStep r (headersOf cs) s ≡ given u → All cs → P (stepCell cs s)) where
+    pub run-all : (ss : List Step) (n : ℕ) (cs : List Cell) → All cs → All (runFrom r cs n ss .cells)
     unfolding runFrom
     run-all [] n cs h = h
     run-all (s ∷ ss) n cs h = go (checkStep r (headersOf cs) s) refl (runFrom r (more cs s) (suc n) ss) (run-all ss (suc n) (more cs s))
@@ -127,10 +127,10 @@ module _ (P : Vector → Type 0) (none : P noVector) where
 
 -- ---- each cell has as many bits as its header says
 
-pub step-sound : (r : Room) (cs : List Vector) (s : Step) (u : Unit) → checkStep r (headersOf cs) s ≡ given u → AllSound cs → AllSound (more cs s)
+pub step-sound : (r : Room) (cs : List Cell) (s : Step) (u : Unit) → checkStep r (headersOf cs) s ≡ given u → AllSound cs → AllSound (more cs s)
 step-sound r cs s u e h =
-    all-more (λ c. length (c .bits) ≡ c .header .width) refl cs (stepCell cs s) h
-    (result-width (cellAt cs (s .a)) (cellAt cs (s .b)) (cellAt cs (s .c)) (s .c) (h (s .a)) (h (s .b)) (h (s .c)) (s .op) (arms-accepted r cs s u e))
+    all-more (λ c. length (c .vector .bits) ≡ c .vector .header .width) refl cs (stepCell cs s) h
+    (result-width (vectorAt cs (s .a)) (vectorAt cs (s .b)) (vectorAt cs (s .c)) (s .c) (h (s .a)) (h (s .b)) (h (s .c)) (s .op) (arms-accepted r cs s u e))
 
 -- ---- no cell is a fill
 
@@ -142,7 +142,7 @@ no-fill-header (family.Answer q) a b c h = tt
 no-fill-header family.Select a b c h = tt
 no-fill-header family.Insert a b c h = h
 
-pub run-no-fill : (r : Room) (ss : List Step) (n : ℕ) (cs : List Vector) → NoFill cs → NoFill (runFrom r cs n ss .cells)
+pub run-no-fill : (r : Room) (ss : List Step) (n : ℕ) (cs : List Cell) → NoFill cs → NoFill (runFrom r cs n ss .cells)
 run-no-fill r =
-    run-all (λ c. T (not (c .header .«is_fill»))) tt r
-    (λ cs s u e h. no-fill-header (familyOf (s .op)) (cellAt cs (s .a) .header) (cellAt cs (s .b) .header) (cellAt cs (s .c) .header) (h (s .a)))
+    run-all (λ c. T (not (c .vector .header .«is_fill»))) tt r
+    (λ cs s u e h. no-fill-header (familyOf (s .op)) (vectorAt cs (s .a) .header) (vectorAt cs (s .b) .header) (vectorAt cs (s .c) .header) (h (s .a)))

@@ -1,5 +1,5 @@
--- Document 01, "The runs of demand 3": inputs that refine others, the completions of a step's operands, what demand 3 claims of the cells of a
--- run, and why some ops stand outside it.
+-- Document 01, "The runs of demand 3": cells that refine others, the completions of a step's operands, what demand 3 claims of the cells of
+-- a run, and why some ops stand outside it.
 use mathlib.Core.Path.{_≡_}
 use mathlib.Core.Bool.{Bool, true, false, not, cond}
 use mathlib.Core.Logic.{_⊎_, _↔_, _≢_}
@@ -22,7 +22,8 @@ use Rattle.ops.specs.declared.Step.{Step}
 use Rattle.ops.specs.declared.Family.{Family}
 use Rattle.ops.specs.declared.Family.the-variants as family
 use Rattle.ops.specs.Ops.{noStep, familyOf, opBits}
-use Rattle.machine.specs.Machine.{Room, headersOf, cellAt, checkStep, stepCell, machineRun}
+use Rattle.machine.specs.declared.Room.{Room}
+use Rattle.machine.specs.Machine.{Cell, headersOf, vectorAt, checkStep, stepCell, machineRun}
 
 -- ---- the ops
 
@@ -82,12 +83,12 @@ abbrev pub Pointwise : (LogicBit → LogicBit → Type 0) → Vector → Vector 
 Pointwise R a b = (b .header ≡ a .header) × (length (b .bits) ≡ length (a .bits)) × ((i : ℕ) → R (at (a .bits) i) (at (b .bits) i))
 
 -- as many cells, and R of each two bits
-abbrev pub Cellwise : (LogicBit → LogicBit → Type 0) → List Vector → List Vector → Type 0
-Cellwise R A B = (length B ≡ length A) × ((j : ℕ) → Pointwise R (cellAt A j) (cellAt B j))
+abbrev pub Cellwise : (LogicBit → LogicBit → Type 0) → List Cell → List Cell → Type 0
+Cellwise R A B = (length B ≡ length A) × ((j : ℕ) → Pointwise R (vectorAt A j) (vectorAt B j))
 
--- each vector has as many bits as its header says
-abbrev pub AllSound : List Vector → Type 0
-AllSound cs = (j : ℕ) → length (cellAt cs j .bits) ≡ cellAt cs j .header .width
+-- each cell has as many bits as its header says
+abbrev pub AllSound : List Cell → Type 0
+AllSound cs = (j : ℕ) → length (vectorAt cs j .bits) ≡ vectorAt cs j .header .width
 
 -- ---- a step that is known exactly
 
@@ -112,70 +113,80 @@ abbrev pub gives : Op → ℕ → (second : Bool) → Vector → Vector → Vect
 gives op pos second a b c i = cond (merges (familyOf op)) (armAt second a b i) (at (opBits op a b c pos) i)
 
 -- every completion of the operands, of each on its own even where two name one cell, gives v at place i
-abbrev pub AllGive : List Vector → Step → ℕ → LogicBit → Type 0
-AllGive cs s i v = (a b c : Vector) → Pointwise Completes (cellAt cs (s .a)) a → Pointwise Completes (cellAt cs (s .b)) b
-    → Pointwise Completes (cellAt cs (s .c)) c → (second : Bool) → gives (s .op) (s .c) second a b c i ≡ v
+abbrev pub AllGive : List Cell → Step → ℕ → LogicBit → Type 0
+AllGive cs s i v = (a b c : Vector) → Pointwise Completes (vectorAt cs (s .a)) a → Pointwise Completes (vectorAt cs (s .b)) b
+    → Pointwise Completes (vectorAt cs (s .c)) c → (second : Bool) → gives (s .op) (s .c) second a b c i ≡ v
 
--- each bit of the cell made is known as v exactly if all completions of the operands give v
-abbrev pub ExactStep : List Vector → Step → Vector → Type 0
+-- each bit of the vector made is known as v exactly if all completions of the operands give v
+abbrev pub ExactStep : List Cell → Step → Vector → Type 0
 ExactStep cs s made = (i : ℕ) → i < length (made .bits) → (v : LogicBit) → Known v → (at (made .bits) i ≡ v) ↔ AllGive cs s i v
 
 -- ---- where an equality is known exactly
 
 -- its operands are of equal width
-abbrev pub EqualWidths : List Vector → Step → Type 0
-EqualWidths cs s = s .op ≡ Equal → cellAt cs (s .a) .header .width ≡ cellAt cs (s .b) .header .width
+abbrev pub EqualWidths : List Cell → Step → Type 0
+EqualWidths cs s = s .op ≡ Equal → vectorAt cs (s .a) .header .width ≡ vectorAt cs (s .b) .header .width
 
 -- two operands of which neither is a fill, and which are of equal width if both are signed
 abbrev pub Comparable : Header → Header → Type 0
 Comparable a b = T (not (a .«is_fill»)) × T (not (b .«is_fill»)) × (T (a .«is_signed») → T (b .«is_signed») → a .width ≡ b .width)
 
--- so are those of an equality. Where they are not, one unknown bit can stand at several places, and the equality be x though all completions give
--- 0: signed x0 beside signed 0100 (document 01, "Cases on either side"), or a fill x beside 01
-abbrev pub EqualityComparable : List Vector → Step → Type 0
-EqualityComparable cs s = s .op ≡ Equal → Comparable (cellAt cs (s .a) .header) (cellAt cs (s .b) .header)
+-- so are those of an equality. Where they are not, one unknown bit can stand at several places, and the equality be x though all completions
+-- give 0: signed x0 beside signed 0100 (document 01, "Cases on either side"), or a fill x beside 01
+abbrev pub EqualityComparable : List Cell → Step → Type 0
+EqualityComparable cs s = s .op ≡ Equal → Comparable (vectorAt cs (s .a) .header) (vectorAt cs (s .b) .header)
 
 -- a step of which exactness is proved
-abbrev pub Exactable : List Vector → Step → Type 0
+abbrev pub Exactable : List Cell → Step → Type 0
 Exactable cs s = T (isExact (s .op)) × EqualityComparable cs s
 
 -- ---- the cells of a run
 
-abbrev pub NoFill : List Vector → Type 0
-NoFill cs = (j : ℕ) → T (not (cellAt cs j .header .«is_fill»))
+abbrev pub NoFill : List Cell → Type 0
+NoFill cs = (j : ℕ) → T (not (vectorAt cs j .header .«is_fill»))
 
--- n inputs and then the cells of the steps ss, as far as these were run: each that meets C is known exactly. Its operands are the cells before it
-abbrev pub ExactCells : (C : List Vector → Step → Type 0) → (n : ℕ) → List Step → List Vector → Type 0
+-- n cells and then those of the steps ss, as far as these were run: each that meets C is known exactly. Its operands are cells before it
+abbrev pub ExactCells : (C : List Cell → Step → Type 0) → (n : ℕ) → List Step → List Cell → Type 0
 ExactCells C n ss cells = (k : ℕ) → k < length ss → n + k < length cells → C (take (n + k) cells) (stepAt ss k)
-    → ExactStep (take (n + k) cells) (stepAt ss k) (cellAt cells (n + k))
+    → ExactStep (take (n + k) cells) (stepAt ss k) (vectorAt cells (n + k))
+
+-- the runs of the steps ss from the cells A and from the cells B end alike, and if all ops keep known bits, every bit known in a cell of the
+-- first is the same in the second
+pub record Alike (r : Room) (A B : List Cell) (ss : List Step) : Type 0 where
+  pub ending : machineRun r B ss .ending ≡ machineRun r A ss .ending
+  pub kept : AllKeep ss → Cellwise Keeps (machineRun r A ss .cells) (machineRun r B ss .cells)
+
+-- so do those from any two lists of cells of which the second has the headers of the first and keeps its known bits
+abbrev pub KnownKept : Type 0
+KnownKept = (r : Room) (A B : List Cell) (ss : List Step) → AllSound A → Cellwise Keeps A B → Alike r A B ss
 
 -- ---- the ops outside demand 3
 
--- a list of one step of the op, and inputs that are refined, with which a bit that was known changes
+-- a list of one step of the op, and cells that are refined, with which a bit that was known changes
 pub record Loses (op : Op) : Type 0 where
   pub room : Room
-  pub inputs : List Vector
-  pub refined : List Vector
+  pub cells : List Cell
+  pub refined : List Cell
   pub step : Step
   pub by : step .op ≡ op
-  pub sound : AllSound inputs
-  pub refines : Cellwise Refines inputs refined
+  pub sound : AllSound cells
+  pub refines : Cellwise Refines cells refined
   pub cell : ℕ
   pub place : ℕ
-  pub known-bit : Known (at (cellAt (machineRun room inputs (step ∷ []) .cells) cell .bits) place)
-  pub changes : at (cellAt (machineRun room refined (step ∷ []) .cells) cell .bits) place
-      ≢ at (cellAt (machineRun room inputs (step ∷ []) .cells) cell .bits) place
+  pub known-bit : Known (at (vectorAt (machineRun room cells (step ∷ []) .cells) cell .bits) place)
+  pub changes : at (vectorAt (machineRun room refined (step ∷ []) .cells) cell .bits) place
+      ≢ at (vectorAt (machineRun room cells (step ∷ []) .cells) cell .bits) place
 
 -- cells and a step of the op that is run on them and is not known exactly, though if it is an equality its operands are comparable
 pub record Inexact (op : Op) : Type 0 where
   pub room : Room
-  pub cells : List Vector
+  pub cells : List Cell
   pub step : Step
   pub by : step .op ≡ op
   pub sound : AllSound cells
   pub accepted : checkStep room (headersOf cells) step ≡ given tt
   pub comparable : EqualityComparable cells step
-  pub inexact : ¬ (ExactStep cells step (stepCell cells step))
+  pub inexact : ¬ (ExactStep cells step (stepCell cells step .vector))
 
 -- the tables leave out an op exactly if it must be
 pub record LeftOut : Type 0 where

@@ -22,14 +22,15 @@ use Rattle.text.specs.Write.{texts, decimalDigits, decimal, numberText, bitsTex
 use Rattle.value.specs.Checks.{plain, Vector}
 use Rattle.ops.specs.declared.Op.the-variants.{And, ReduceOr, Equal}
 use Rattle.ops.specs.declared.Step.{Step}
-use Rattle.machine.specs.Machine.{headersOf, cellAt, wordsTaken, checkStep, runFrom}
+use Rattle.machine.specs.Machine.{Cell, holding, vectorAt, wordsTaken, checkStep, runFrom, inputCells}
+use Rattle.execute.specs.Executed.{LentMemory}
 use Rattle.knownness.specs.Knownness.{stepAt, Refines, Pointwise, Cellwise, AllSound, NoFill, ExactStep, EqualWidths}
 use Rattle.store.specs.Store.{state, emptyStore}
 use Rattle.store.proofs.Held.{empty-holds}
 use Rattle.steplist.specs.Listing.{InLimits, InputWithin, StepWithin, whole, inputText, stepText, listText}
 use Rattle.steplist.proofs.Exactly.{whole-exactly}
-use Rattle.run_theorem.specs.Demand.{LentMemory, room, stepList, runOn, runOf, cellsLeft, Paired, Demanded, Demand}
-use Rattle.run_theorem.proofs.Inputs.{Accepts, inputs-plain}
+use Rattle.run_theorem.specs.Demand.{room, stepList, runOn, runOf, cellsLeft, Paired, Demanded, Demand}
+use Rattle.run_theorem.proofs.Inputs.{Accepts, inputHeaders, inputs-plain}
 use Rattle.run_theorem.proofs.Demand.{kept-named, demand3, text-demand3}
 
 -- ---- the runs
@@ -61,23 +62,23 @@ n = record { arenas = lent (0 ∷ 0 ∷ 0 ∷ 0 ∷ 0 ∷ 0 ∷ []) (5 ∷ 0 ∷
 
 -- ---- what is assumed of them
 
-sound : AllSound A
+sound : AllSound (inputCells A)
 sound zero = refl
 sound (suc zero) = refl
 sound (suc (suc zero)) = refl
 sound (suc (suc (suc j))) = refl
 
-no-fill : NoFill A
+no-fill : NoFill (inputCells A)
 no-fill zero = tt
 no-fill (suc zero) = tt
 no-fill (suc (suc zero)) = tt
 no-fill (suc (suc (suc j))) = tt
 
-by-headers : Accepts (room m) [] (headersOf A)
+by-headers : Accepts (room m) [] (inputHeaders A)
 unfolding wordsTaken
 by-headers = (refl, (refl, (refl, tt {0})))
 
-refined : Cellwise Refines A B
+refined : Cellwise Refines (inputCells A) (inputCells B)
 refined = (refl, go)
   where
     first : (i : ℕ) → Refines (at (X ∷ One ∷ []) i) (at (One ∷ One ∷ []) i)
@@ -88,7 +89,7 @@ refined = (refl, go)
     last zero = inr (tt, tt)
     last (suc i) = inl refl
 
-    go : (j : ℕ) → Pointwise Refines (cellAt A j) (cellAt B j)
+    go : (j : ℕ) → Pointwise Refines (vectorAt (inputCells A) j) (vectorAt (inputCells B) j)
     go zero = (refl, refl, first)
     go (suc zero) = (refl, refl, λ i. inl refl)
     go (suc (suc zero)) = (refl, refl, last)
@@ -97,7 +98,7 @@ refined = (refl, go)
 paired : Paired m n A B
 paired = record {
   refines = refined;
-  accepted = inputs-plain (m .scratch) (room m) A (state emptyStore (m .arenas)) [] refl (empty-holds (m .arenas) refl) sound by-headers .0;
+  accepted = inputs-plain (m .scratch) (room m) A (state emptyStore (m .arenas)) [] refl (empty-holds (m .arenas) refl) sound by-headers .accepted;
   arenas = (refl, refl);
   scratch = (refl, refl);
 }
@@ -113,11 +114,14 @@ ops (suc (suc (suc k))) = kept-named And tt
 case : Demand m n A B ss (runOn m A ss) (runOn n B ss)
 case = demand3 m n A B ss sound paired no-fill ops
 
-abbrev cells : List Vector
-cells = A ++ (unsigned (X ∷ Zero ∷ []) ∷ unsigned (X ∷ []) ∷ unsigned (Zero ∷ []) ∷ [])
+abbrev result : List LogicBit → Cell
+result bs = holding (unsigned bs)
 
-abbrev cellsRefined : List Vector
-cellsRefined = B ++ (unsigned (One ∷ Zero ∷ []) ∷ unsigned (One ∷ []) ∷ unsigned (Zero ∷ []) ∷ [])
+abbrev cells : List Cell
+cells = inputCells A ++ (result (X ∷ Zero ∷ []) ∷ result (X ∷ []) ∷ result (Zero ∷ []) ∷ [])
+
+abbrev cellsRefined : List Cell
+cellsRefined = inputCells B ++ (result (One ∷ Zero ∷ []) ∷ result (One ∷ []) ∷ result (Zero ∷ []) ∷ [])
 
 pub left : cellsLeft (runOn m A ss) ≡ cells
 unfolding runFrom checkStep wordsTaken tabulate
@@ -127,14 +131,14 @@ pub left-refined : cellsLeft (runOn n B ss) ≡ cellsRefined
 unfolding runFrom checkStep wordsTaken tabulate
 left-refined = case .plain-refined
 
-pub kept-zero : at (cellAt (cellsLeft (runOn n B ss)) 3 .bits) 1 ≡ at (cellAt (cellsLeft (runOn m A ss)) 3 .bits) 1
-kept-zero = case .kept .1 3 .2 1 (subst (λ (c : List Vector). T (known (at (cellAt c 3 .bits) 1))) (sym left) tt)
+pub kept-zero : at (vectorAt (cellsLeft (runOn n B ss)) 3 .bits) 1 ≡ at (vectorAt (cellsLeft (runOn m A ss)) 3 .bits) 1
+kept-zero = case .kept .1 3 .2 1 (subst (λ (c : List Cell). T (known (at (vectorAt c 3 .bits) 1))) (sym left) tt)
 
-pub exact-step : (k : ℕ) → k < 3 → ExactStep (take (3 + k) cells) (stepAt ss k) (cellAt cells (3 + k))
-exact-step k l = subst (λ c. ExactStep (take (3 + k) c) (stepAt ss k) (cellAt c (3 + k))) left (case .exact k l inside widths)
+pub exact-step : (k : ℕ) → k < 3 → ExactStep (take (3 + k) cells) (stepAt ss k) (vectorAt cells (3 + k))
+exact-step k l = subst (λ c. ExactStep (take (3 + k) c) (stepAt ss k) (vectorAt c (3 + k))) left (case .exact k l inside widths)
   where
     inside : 3 + k < length (cellsLeft (runOn m A ss))
-    inside = subst (λ (c : List Vector). 3 + k < length c) (sym left) (omega arith)
+    inside = subst (λ (c : List Cell). 3 + k < length c) (sym left) (omega arith)
 
     equal : (k : ℕ) → k < 3 → EqualWidths (take (3 + k) cells) (stepAt ss k)
     equal zero l e = refl

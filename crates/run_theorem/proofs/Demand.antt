@@ -11,12 +11,23 @@ use Rattle.value.specs.Checks.{Vector}
 use Rattle.ops.specs.declared.Op.{Op}
 use Rattle.ops.specs.declared.Op.the-variants.{And, Or, Xor, Not, Merge, ReduceAnd, ReduceOr, ReduceXor, Equal, CaseEqual, CasezEqual, CasexEqual, WildcardEqual, LogicAnd, LogicOr, Select, Insert}
 use Rattle.ops.specs.declared.Step.{Step}
+use Rattle.machine.specs.Machine.{Cell, inputCells}
+use Rattle.execute.specs.Executed.{LentMemory}
 use Rattle.knownness.specs.Knownness.{keepsKnown, stepAt, Refines, Cellwise, NoFill, EqualWidths, Exactable, ExactCells}
 use Rattle.knownness.proofs.Machine.{run-no-fill}
+use Rattle.steps.specs.Run.{Ran}
 use Rattle.run_theorem.specs.Demand.{room, runOn, cellsLeft, Demanded, Demand, Demand3, TextDemand3}
+use Rattle.run_theorem.specs.Refinement.{PlainRun}
 use Rattle.run_theorem.proofs.Refinement.{refinement, text-sound, of-texts}
 
--- ---- the ops: those of which none of the four names is theirs, and those that the table has
+-- ---- the ops: those that the table has, and those of which none of the four names is theirs
+
+-- an op that the table has is none that it has not
+other : (op : Op) {o : Op} → T (keepsKnown op) → ¬ (T (keepsKnown o)) → op ≢ o
+other op t f e = f (subst (λ (x : Op). T (keepsKnown x)) e t)
+
+pub kept-named : (op : Op) → T (keepsKnown op) → Demanded op
+kept-named op t = (other op t (λ x. x), other op t (λ x. x), other op t (λ x. x), other op t (λ x. x))
 
 named-kept : (op : Op) → Demanded op → T (keepsKnown op)
 named-kept And d = tt
@@ -37,33 +48,24 @@ named-kept LogicOr d = tt
 named-kept Select d = tt
 named-kept Insert d = tt
 
--- an op is named where another is of which the table says otherwise
-other : (op o : Op) → T (keepsKnown op) → ¬ (T (keepsKnown o)) → op ≢ o
-other op o t f e = f (subst (λ (x : Op). T (keepsKnown x)) e t)
-
-pub kept-named : (op : Op) → T (keepsKnown op) → Demanded op
-kept-named op t = (
-  other op CaseEqual t (λ x. x),
-  other op CasezEqual t (λ x. x),
-  other op CasexEqual t (λ x. x),
-  other op WildcardEqual t (λ x. x),
-)
-
 -- ---- no fills
 
--- of the first cells, since an empty vector is read behind them
-no-fill-take : (cs : List Vector) (n : ℕ) → NoFill cs → NoFill (take n cs)
+-- of the first cells, since an empty cell is read behind them
+no-fill-take : (cs : List Cell) (n : ℕ) → NoFill cs → NoFill (take n cs)
 no-fill-take cs zero h j = tt
 no-fill-take [] (suc n) h j = tt
 no-fill-take (x ∷ xs) (suc n) h zero = h zero
 no-fill-take (x ∷ xs) (suc n) h (suc j) = no-fill-take xs n (λ i. h (suc i)) j
 
-refined-no-fill : (A B : List Vector) → Cellwise Refines A B → NoFill A → NoFill B
+refined-no-fill : (A B : List Cell) → Cellwise Refines A B → NoFill A → NoFill B
 refined-no-fill A B r h j = subst (λ x. T (not (x .«is_fill»))) (sym (r .1 j .0)) (h j)
 
+plain-no-fill : (m : LentMemory) (A : List Vector) (ss : List Step) (p : Ran) → PlainRun m A ss p → NoFill (inputCells A) → NoFill (cellsLeft p)
+plain-no-fill m A ss p t h = subst NoFill (sym (t .cells)) (run-no-fill (room m) ss 0 (inputCells A) h)
+
 -- where no cell is a fill and every op is one of those named, a step is known exactly if it is no equality or its operands are of equal width
-equal-widths-exact : (n : ℕ) (ss : List Step) (cells : List Vector) → ((k : ℕ) → Demanded (stepAt ss k .op)) → NoFill cells → ExactCells Exactable n ss cells
-    → ExactCells EqualWidths n ss cells
+equal-widths-exact : (n : ℕ) (ss : List Step) (cells : List Cell) → ((k : ℕ) → Demanded (stepAt ss k .op)) → NoFill cells
+    → ExactCells Exactable n ss cells → ExactCells EqualWidths n ss cells
 equal-widths-exact n ss cells ops h x k l m w =
     let f = no-fill-take cells (n + k) h in
     x k l m (named-kept (stepAt ss k .op) (ops k), λ q. (f (stepAt ss k .a), f (stepAt ss k .b), λ s t. w q))
@@ -71,8 +73,8 @@ equal-widths-exact n ss cells ops h x k l m w =
 pub demand3 : Demand3
 demand3 m n A B ss sound pair plain ops =
     let r = refinement m n A B ss sound pair in
-    let p : NoFill (cellsLeft (runOn m A ss)) = subst NoFill (sym (r .plain .cells)) (run-no-fill (room m) ss 0 A plain) in
-    let q : NoFill (cellsLeft (runOn n B ss)) = subst NoFill (sym (r .plain-refined .cells)) (run-no-fill (room n) ss 0 B (refined-no-fill A B (pair .refines) plain)) in
+    let p = plain-no-fill m A ss (runOn m A ss) (r .plain) plain in
+    let q = plain-no-fill n B ss (runOn n B ss) (r .plain-refined) (refined-no-fill (inputCells A) (inputCells B) (pair .refines) plain) in
     record {
       ending = r .ending;
       kept = r .kept (λ k. named-kept (stepAt ss k .op) (ops k));

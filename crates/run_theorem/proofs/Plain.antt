@@ -5,11 +5,11 @@ use mathlib.Core.List.{List, [], _∷_, _++_}
 use Prim.Native.Nat.{ℕ, suc}
 use Rattle.refusal.specs.Outcome.{Answer, Outcome, outcome, orRefuse}
 use Rattle.refusal.specs.Outcome.Answer.{given, refused}
-use Rattle.value.specs.Checks.{Vector}
 use Rattle.ops.specs.declared.Step.{Step}
-use Rattle.machine.specs.Machine.{Room, headersOf, checkStep, stepCell, Run, onward, runFrom}
+use Rattle.machine.specs.declared.Room.{Room}
+use Rattle.machine.specs.Machine.{Cell, headersOf, checkStep, stepCell, Run, onward, runFrom}
 use Rattle.store.specs.Store.{Holds, roomOf}
-use Rattle.store.specs.Step.{Memory, stepVector, stepped, addStep}
+use Rattle.store.specs.Step.{Memory, stepResult, stepped, addStep}
 use Rattle.store.proofs.Held.{Added}
 use Rattle.store.proofs.Steps.{step-check, step-holds}
 use Rattle.steps.specs.Run.{Ran, afterStep, runSteps}
@@ -20,24 +20,27 @@ Same a p = (a .ending ≡ p .ending) × Holds (a .memory .state) (p .cells)
 abbrev pub room : Memory → Room
 room m = roomOf (m .state .arenas) (m .scratch)
 
-pub steps-plain : (ss : List Step) (m : Memory) (cs : List Vector) (k : ℕ) (r : Room) → room m ≡ r → Holds (m .state) cs
+pub steps-plain : (ss : List Step) (m : Memory) (cs : List Cell) (k : ℕ) (r : Room) → room m ≡ r → Holds (m .state) cs
     → Same (runSteps m k ss) (runFrom r cs k ss)
 unfolding runSteps runFrom
 steps-plain [] m cs k r e h = (refl, h)
 steps-plain (s ∷ ss) m cs k r e h =
     go (checkStep r (headersOf cs) s) refl (λ n q p. steps-plain ss n (cs ++ (stepCell cs s ∷ [])) (suc k) r q p)
   where
-    v : Vector
-    v = stepVector (m .state) s
+    more : List Cell
+    more = cs ++ (stepCell cs s ∷ [])
+
+    c : Cell
+    c = stepResult (m .state) s
 
     done : Outcome ℕ Memory
-    done = outcome (given (m .state .store .count)) (stepped v m)
+    done = outcome (given (m .state .store .count)) (stepped c m)
 
     machine : Answer Unit → Run
-    machine x = onward x cs k (runFrom r (cs ++ (stepCell cs s ∷ [])) (suc k) ss)
+    machine x = onward x cs k (runFrom r more (suc k) ss)
 
     ours : Outcome ℕ Memory → Ran
-    ours o = afterStep (o .answer) (o .left) k (v .bits) (runSteps (o .left) (suc k) ss)
+    ours o = afterStep (o .answer) (o .left) k (c .vector .bits) (runSteps (o .left) (suc k) ss)
 
     same-check : checkStep (room m) (headersOf cs) s ≡ checkStep r (headersOf cs) s
     same-check = ap (λ z. checkStep z (headersOf cs) s) e
@@ -46,9 +49,11 @@ steps-plain (s ∷ ss) m cs k r e h =
     called x f = ap (λ z. orRefuse z m done) (step-check (m .state) cs (m .scratch) s h ∙ same-check ∙ f)
 
     go : (x : Answer Unit) → checkStep r (headersOf cs) s ≡ x
-        → ((n : Memory) → room n ≡ r → Holds (n .state) (cs ++ (stepCell cs s ∷ [])) → Same (runSteps n (suc k) ss) (runFrom r (cs ++ (stepCell cs s ∷ [])) (suc k) ss))
+        → ((n : Memory) → room n ≡ r → Holds (n .state) more → Same (runSteps n (suc k) ss) (runFrom r more (suc k) ss))
         → Same (ours (addStep m s)) (machine x)
     go (given u) f ih =
-        let a = subst (λ o. Added (o .answer) m (o .left) cs (stepCell cs s)) (called (given u) f) (step-holds (m .state) cs (m .scratch) s h (same-check ∙ f)) in
-        subst (λ o. Same (ours o) (machine (given u))) (sym (called (given u) f)) (ih (stepped v m) (a .room ∙ e) (a .holds))
+        let a =
+        subst (λ o. Added (o .answer) m (o .left) cs (stepCell cs s)) (called (given u) f) (step-holds (m .state) cs (m .scratch) s h (same-check ∙ f))
+        in
+        subst (λ o. Same (ours o) (machine (given u))) (sym (called (given u) f)) (ih (stepped c m) (a .room ∙ e) (a .holds))
     go (refused n) f ih = subst (λ o. Same (ours o) (machine (refused n))) (sym (called (refused n) f)) (refl, h)

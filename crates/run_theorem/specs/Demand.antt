@@ -13,19 +13,16 @@ use Rattle.value.specs.Checks.{Vector}
 use Rattle.ops.specs.declared.Op.{Op}
 use Rattle.ops.specs.declared.Op.the-variants.{CaseEqual, CasezEqual, CasexEqual, WildcardEqual}
 use Rattle.ops.specs.declared.Step.{Step}
-use Rattle.machine.specs.Machine.{Room, machineRun}
+use Rattle.machine.specs.declared.Room.{Room}
+use Rattle.machine.specs.Machine.{Cell, inputCells, machineRun}
+use Rattle.execute.specs.Executed.{LentMemory}
 use Rattle.store.specs.Store.{state, emptyStore, roomOf, cellsOf}
 use Rattle.steplist.specs.Listing.{StepList, whole}
 use Rattle.knownness.specs.Knownness.{stepAt, Keeps, Refines, Cellwise, AllSound, NoFill, EqualWidths, ExactCells}
-use Rattle.inputs.specs.Inputs.{addInputs}
+use Rattle.load.specs.Inputs.{addInputs}
 use Rattle.steps.specs.Run.{Ran, runList, runText, emptied}
 
 -- ---- two runs
-
--- what is lent to a run, with any contents
-pub record LentMemory : Type 0 where
-  pub arenas : Planes
-  pub scratch : Planes
 
 abbrev pub room : LentMemory → Room
 room m = roomOf (m .arenas) (m .scratch)
@@ -42,7 +39,7 @@ abbrev pub runOf : LentMemory → List ℕ → Ran
 runOf m t = runText (m .arenas) (m .scratch) t
 
 -- the headers of the filled cells, and in the arenas their bits
-abbrev pub cellsLeft : Ran → List Vector
+abbrev pub cellsLeft : Ran → List Cell
 cellsLeft p = cellsOf (p .memory .state)
 
 -- two lent planes of the same lengths as two others
@@ -52,7 +49,7 @@ SameLengths p q = (length (q .value) ≡ length (p .value)) × (length (q .unkno
 -- the inputs B are A with some unknown bits made 0 or 1, every input of A is accepted (that those of B are is not assumed), and both runs are lent
 -- arenas and scratch of the same lengths
 pub record Paired (m n : LentMemory) (A B : List Vector) : Type 0 where
-  pub refines : Cellwise Refines A B
+  pub refines : Cellwise Refines (inputCells A) (inputCells B)
   pub accepted : addInputs (state emptyStore (m .arenas)) A .answer ≡ given tt
   pub arenas : SameLengths (m .arenas) (n .arenas)
   pub scratch : SameLengths (m .scratch) (n .scratch)
@@ -70,8 +67,8 @@ pub record Demand (m n : LentMemory) (A B : List Vector) (ss : List Step) (p q :
   -- every bit known in any cell under A is the same under B
   pub kept : Cellwise Keeps (cellsLeft p) (cellsLeft q)
   -- each run's cells are the plain machine's
-  pub plain : cellsLeft p ≡ machineRun (room m) A ss .cells
-  pub plain-refined : cellsLeft q ≡ machineRun (room n) B ss .cells
+  pub plain : cellsLeft p ≡ machineRun (room m) (inputCells A) ss .cells
+  pub plain-refined : cellsLeft q ≡ machineRun (room n) (inputCells B) ss .cells
   -- each bit of each step's result is known as v exactly when all completions of the step's operands give v
   pub exact : ExactCells EqualWidths (length A) ss (cellsLeft p)
   pub exact-refined : ExactCells EqualWidths (length B) ss (cellsLeft q)
@@ -80,9 +77,9 @@ pub record Demand (m n : LentMemory) (A B : List Vector) (ss : List Step) (p q :
 abbrev pub TextDemand3 : Type 0
 TextDemand3 = (m n : LentMemory) (A B : List Vector) (ss : List Step) (t u : List ℕ)
     → whole t ≡ given (stepList A ss) → whole u ≡ given (stepList B ss)
-    → Paired m n A B → NoFill A → ((k : ℕ) → Demanded (stepAt ss k .op)) → Demand m n A B ss (runOf m t) (runOf n u)
+    → Paired m n A B → NoFill (inputCells A) → ((k : ℕ) → Demanded (stepAt ss k .op)) → Demand m n A B ss (runOf m t) (runOf n u)
 
 -- of any two such lists, each of whose inputs has as many bits as its header says
 abbrev pub Demand3 : Type 0
-Demand3 = (m n : LentMemory) (A B : List Vector) (ss : List Step) → AllSound A
-    → Paired m n A B → NoFill A → ((k : ℕ) → Demanded (stepAt ss k .op)) → Demand m n A B ss (runOn m A ss) (runOn n B ss)
+Demand3 = (m n : LentMemory) (A B : List Vector) (ss : List Step) → AllSound (inputCells A)
+    → Paired m n A B → NoFill (inputCells A) → ((k : ℕ) → Demanded (stepAt ss k .op)) → Demand m n A B ss (runOn m A ss) (runOn n B ss)

@@ -8,12 +8,13 @@ use lib.ListN.{length}
 use Rattle.refusal.specs.Outcome.Answer.{given}
 use Rattle.value.specs.Checks.{Vector}
 use Rattle.ops.specs.declared.Step.{Step}
-use Rattle.machine.specs.Machine.{Ending, AtEnd, RefusedAt, machineRun}
+use Rattle.machine.specs.Machine.{Ending, AtEnd, RefusedAt, inputCells, machineRun}
+use Rattle.execute.specs.Executed.{LentMemory}
 use Rattle.store.specs.Store.{Holds}
 use Rattle.steplist.specs.Listing.{whole}
 use Rattle.knownness.specs.Knownness.{AllKeep, Keeps, Cellwise, AllSound, Exactable, ExactCells}
 use Rattle.steps.specs.Run.{Ran}
-use Rattle.run_theorem.specs.Demand.{LentMemory, room, stepList, runOn, runOf, cellsLeft, Paired}
+use Rattle.run_theorem.specs.Demand.{room, stepList, runOn, runOf, cellsLeft, Paired}
 
 -- arenas of one length, as 14 asks of every store
 abbrev pub Level : LentMemory → Type 0
@@ -27,10 +28,10 @@ unevenEnding (s ∷ ss) = RefusedAt 14 1
 -- the run p on m, accepted inputs A and the steps ss is the plain machine's
 pub record PlainRun (m : LentMemory) (A : List Vector) (ss : List Step) (p : Ran) : Type 0 where
   -- it leaves exactly that machine's cells
-  pub cells : cellsLeft p ≡ machineRun (room m) A ss .cells
+  pub cells : cellsLeft p ≡ machineRun (room m) (inputCells A) ss .cells
   -- in arenas of one length it ends as the machine does, and the store it leaves agrees with its arenas
-  pub ending : Level m → p .ending ≡ machineRun (room m) A ss .ending
-  pub holds : Level m → Holds (p .memory .state) (machineRun (room m) A ss .cells)
+  pub ending : Level m → p .ending ≡ machineRun (room m) (inputCells A) ss .ending
+  pub holds : Level m → Holds (p .memory .state) (machineRun (room m) (inputCells A) ss .cells)
   -- in arenas of two lengths no input is accepted, so there is none; the machine, which has no arenas, would refuse the first step by 11
   pub uneven : ¬ (Level m) → (A ≡ []) × (p .ending ≡ unevenEnding ss)
 
@@ -44,7 +45,7 @@ pub record Refined (m n : LentMemory) (A B : List Vector) (ss : List Step) (p q 
   pub exact-refined : ExactCells Exactable (length B) ss (cellsLeft q)
 
 abbrev pub Refinement : Type 0
-Refinement = (m n : LentMemory) (A B : List Vector) (ss : List Step) → AllSound A → Paired m n A B
+Refinement = (m n : LentMemory) (A B : List Vector) (ss : List Step) → AllSound (inputCells A) → Paired m n A B
     → Refined m n A B ss (runOn m A ss) (runOn n B ss)
 
 -- of two texts that say such lists, and what `run` computes of them

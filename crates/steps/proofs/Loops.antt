@@ -13,25 +13,25 @@ use Rattle.lines.specs.Buffer.{Buffer, buffer, put}
 use Rattle.run_lines.specs.Output.{cellText, doneText, refusedText}
 use Rattle.ops.specs.declared.Step.{Step}
 use Rattle.machine.specs.Machine.{AtEnd, RefusedAt}
-use Rattle.store.specs.Step.{Memory, checkMemory, stepVector, stepped, addStep}
+use Rattle.store.specs.Step.{Memory, checkMemory, stepResult, stepped, addStep}
 use Rattle.steps.specs.Run.{runSteps, final, finalOf}
-use Rattle.inputs.specs.Limits.{AllThin}
+use Rattle.load.specs.Limits.{AllThin}
 use Rattle.steps.proofs.Turns.{steps-done, step-turn, step-last}
-use Rattle.inputs.proofs.Thin.{thin-put}
+use Rattle.load.proofs.Thin.{thin-put}
 use Rattle.steps.proofs.Thin.{step-thin}
-use Rattle.inputs.proofs.Loops.{next-one, none-left}
+use Rattle.load.proofs.Loops.{next-one, none-left}
 
 stepped-thin : (m : Memory) (step : Step) → AllThin (m .state .store) → AllThin (addStep m step .left .state .store)
 stepped-thin m step n = go (checkMemory m step)
   where
-    go : (x : Answer Unit) → AllThin (orRefuse x m (outcome (given (m .state .store .count)) (stepped (stepVector (m .state) step) m)) .left .state .store)
-    go (given u) = thin-put (stepVector (m .state) step .header) (m .state .store) n (step-thin (m .state) step n)
+    go : (x : Answer Unit) → AllThin (orRefuse x m (outcome (given (m .state .store .count)) (stepped (stepResult (m .state) step) m)) .left .state .store)
+    go (given u) = thin-put (stepResult (m .state) step .vector .header) (m .state .store) n (step-thin (m .state) step n)
     go (refused k) = n
 
 stepped-places : (m : Memory) (step : Step) → length (m .state .store .cells) ≡ 320 → length (addStep m step .left .state .store .cells) ≡ 320
 stepped-places m step n = go (checkMemory m step)
   where
-    go : (x : Answer Unit) → length (orRefuse x m (outcome (given (m .state .store .count)) (stepped (stepVector (m .state) step) m)) .left .state .store .cells) ≡ 320
+    go : (x : Answer Unit) → length (orRefuse x m (outcome (given (m .state .store .count)) (stepped (stepResult (m .state) step) m)) .left .state .store .cells) ≡ 320
     go (given u) = simp length-set n
     go (refused k) = n
 
@@ -59,7 +59,7 @@ module _ (n : ℕ) (f : ℕ → Step) (from : Memory) (out : List ℕ) where
       onto-step = h .left ∙ ap (λ ss. finalOf (runSteps m k ss) (buffer d at)) (next-one n f k l)
 
       module _ (a : Answer ℕ) (t : Memory) (e : List ℕ) (j : ℕ) (called : outcome a t ≡ addStep m (f k)) where
-        pub walk-more : (c : ℕ) → a ≡ given c → buffer e j ≡ put (buffer d at) (cellText c (stepVector (m .state) (f k) .bits))
+        pub walk-more : (c : ℕ) → a ≡ given c → buffer e j ≡ put (buffer d at) (cellText c (stepResult (m .state) (f k) .vector .bits))
             → at ≤ length d → j ≤ at + 4111 → length e ≡ length d → Walked from out n f t e j (k + 1)
         walk-more c g shown inside short same =
             let left : addStep m (f k) .left ≡ t = sym (ap (λ (o : Outcome ℕ Memory). o .left) called) in

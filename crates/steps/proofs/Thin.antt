@@ -9,14 +9,15 @@ use Rattle.ops.specs.declared.Family.{Family}
 use Rattle.ops.specs.declared.Family.the-variants as family
 use Rattle.ops.specs.declared.Step.{Step}
 use Rattle.ops.specs.Ops.{familyOf, familyHeader}
-use Rattle.machine.specs.Machine.{cellAt}
+use Rattle.machine.specs.Machine.{holding, vectorAt}
 use Rattle.cells.specs.declared.Cell.{Cell}
 use Rattle.cells.specs.Cells.{cellVector}
-use Rattle.store.specs.Store.{State, noCell, cellsOf}
-use Rattle.store.specs.Step.{stepVector}
-use Rattle.inputs.specs.Limits.{Thin, AllThin}
+use Rattle.cells.specs.Places.{noCell}
+use Rattle.store.specs.Store.{State, cellsOf}
+use Rattle.store.specs.Step.{stepResult}
+use Rattle.load.specs.Limits.{Thin, AllThin}
 
-cells-thin : (a : Planes) (cs : List Cell) (n : ℕ) → ((j : ℕ) → Thin (getD cs j noCell .header)) → (j : ℕ) → Thin (cellAt (map (cellVector a) (take n cs)) j .header)
+cells-thin : (a : Planes) (cs : List Cell) (n : ℕ) → ((j : ℕ) → Thin (getD cs j noCell .header)) → (j : ℕ) → Thin (vectorAt (map (λ (c : Cell). holding (cellVector a c)) (take n cs)) j .header)
 cells-thin a [] zero t j = omega arith
 cells-thin a [] (suc n) t j = omega arith
 cells-thin a (c ∷ cs) zero t j = omega arith
@@ -30,8 +31,8 @@ family-thin (family.Answer q) a b c p q′ r = omega arith
 family-thin family.Select a b c p q r = q
 family-thin family.Insert a b c p q r = p
 
-pub step-thin : (s : State) (step : Step) → AllThin (s .store) → Thin (stepVector s step .header)
+pub step-thin : (s : State) (step : Step) → AllThin (s .store) → Thin (stepResult s step .vector .header)
 step-thin s step n =
-    let t : (j : ℕ) → Thin (cellAt (cellsOf s) j .header) = cells-thin (s .arenas) (s .store .cells) (s .store .count) n in
-    family-thin (familyOf (step .op)) (cellAt (cellsOf s) (step .a) .header) (cellAt (cellsOf s) (step .b) .header) (cellAt (cellsOf s) (step .c) .header)
+    let t : (j : ℕ) → Thin (vectorAt (cellsOf s) j .header) = cells-thin (s .arenas) (s .store .cells) (s .store .count) n in
+    family-thin (familyOf (step .op)) (vectorAt (cellsOf s) (step .a) .header) (vectorAt (cellsOf s) (step .b) .header) (vectorAt (cellsOf s) (step .c) .header)
     (t (step .a)) (t (step .b)) (t (step .c))

@@ -11,12 +11,13 @@ use Rattle.lines.specs.Buffer.{Buffer, buffer, put}
 use Rattle.run_lines.specs.Output.{cellText, doneText, refusedText}
 use Rattle.ops.specs.declared.Step.{Step}
 use Rattle.machine.specs.Machine.{Ending, AtEnd, RefusedAt}
-use Rattle.store.specs.Store.{state, emptyStore}
-use Rattle.store.specs.Step.{Memory, memory, memoryBy, addStep, stepVector}
-use Rattle.inputs.specs.Inputs.{addInputs}
+use Rattle.store.specs.Store.{state, emptyStore, storeOf}
+use Rattle.store.specs.Step.{Memory, memory, memoryBy, addStep, stepResult}
+use Rattle.load.specs.Inputs.{addInputs}
 use Rattle.steplist.specs.Listing.{StepList, whole}
 use Rattle.steps.specs.declared.RunEnding.{RunEnding}
 use Rattle.steps.specs.declared.RunEnding.the-variants as run-ending
+use Rattle.steps.specs.declared.Pass.{Pass}
 use Rattle.steps.specs.declared.RunAnswer.{RunAnswer}
 
 -- the memory that a run leaves, the text that it writes, and how it ends
@@ -53,7 +54,7 @@ unfoldable pub runSteps : Memory → ℕ → List Step → Ran
 runSteps m k [] = ended m (AtEnd k)
 runSteps m k (s ∷ ss) =
     let left = addStep m s .left in
-    afterStep (addStep m s .answer) left k (stepVector (m .state) s .bits) (runSteps left (suc k) ss)
+    afterStep (addStep m s .answer) left k (stepResult (m .state) s .vector .bits) (runSteps left (suc k) ss)
 
 -- ---- a whole list
 
@@ -98,6 +99,9 @@ final m b e = record { memory = m; out = b; ending = e }
 abbrev pub finalOf : Ran → Buffer → Final
 finalOf r b = final (r .memory) (put b (r .text)) (r .ending)
 
--- by the references
+-- by the references, after a pass over steps and after a run
+abbrev pub passBy : Pass → (av au sv su out : RefT (List ℕ)) → Final
+passBy r av au sv su out = final (memoryBy (storeOf (r .count) (r .fields)) av au sv su) (buffer (now out) (r .length)) (endingOf (r .ending))
+
 abbrev pub finalBy : RunAnswer → (av au sv su out : RefT (List ℕ)) → Final
 finalBy r av au sv su out = final (memoryBy (r .store) av au sv su) (buffer (now out) (r .length)) (endingOf (r .ending))

@@ -1,11 +1,12 @@
-// A step list, run: its text is read whole, its inputs and steps are added to an empty store, and the lines that it writes stand in a
-// buffer.
-use inputs::unchecked::add_inputs;
+// A step list, run: its text is loaded, its steps are planned and executed one after the other, and the lines that it writes stand in a buffer.
+use cells::Fields;
+use load::load_list;
 use refusal::Refusal;
 use refusal::Verdict;
 use run_lines::unchecked::put_refused;
-use steplist::read_list;
 use store::Store;
+use store::unchecked::store_of;
+use unchecked::run_steps;
 ghost use mathlib.Core.Path.{_≡_};
 ghost use Rattle.words.specs.Planes.{lentBy};
 ghost use Rattle.lines.specs.Buffer.{buffer};
@@ -17,6 +18,15 @@ pub mod unchecked;
 pub enum RunEnding {
     Done(u32),
     Refused(Refusal, u32),
+}
+
+// What a pass over steps leaves: the four arrays of the cells, how many are filled, how many bytes were written at the front of the buffer, and
+// how it ended.
+pub struct Pass {
+    pub fields: Fields,
+    pub count: usize,
+    pub length: usize,
+    pub ending: RunEnding,
 }
 
 // The store that a run leaves, how many bytes it wrote at the front of the buffer, and how it ended.
@@ -44,31 +54,27 @@ pub fn run(
         (now (text .entry)))
         (buffer (now (out .entry)) 0) ⌝ }
 {
-    let a = read_list(text);
-    let verdict = a.verdict;
+    let l = load_list(text, av, au);
+    let inputs = l.inputs;
+    let verdict = inputs.verdict;
     match verdict {
         Verdict::Refused(r) => {
+            let f = inputs.fields;
             let n = refusal::number(r) as u32;
             RunAnswer {
-                store: Store::new(),
+                store: store_of(inputs.count, &f.starts, &f.widths, &f.signs, &f.fills),
                 length: put_refused(out, 0, n, 0),
                 ending: RunEnding::Refused(r, 0),
             }
         }
         Verdict::Accepted => {
-            let fed = add_inputs(a.list, text, av, au);
-            let s = fed.store;
-            let fed_verdict = fed.verdict;
-            match fed_verdict {
-                Verdict::Refused(q) => {
-                    let m = refusal::number(q) as u32;
-                    RunAnswer {
-                        store: s,
-                        length: put_refused(out, 0, m, 0),
-                        ending: RunEnding::Refused(q, 0),
-                    }
-                }
-                Verdict::Accepted => unchecked::run_steps(a.list, s, av, au, sv, su, out),
+            let p = run_steps(l.list, inputs, av, au, sv, su, out);
+            let g = p.fields;
+            let ending = p.ending;
+            RunAnswer {
+                store: store_of(p.count, &g.starts, &g.widths, &g.signs, &g.fills),
+                length: p.length,
+                ending: ending,
             }
         }
     }

@@ -1,5 +1,5 @@
 -- An input that is not refused.
---     input-accepted  what its check has found
+--     behind-accepted, input-accepted     what the checks behind 14 have found where store and arenas agree, and what all of them have
 --     plane-whole, plane-front    a plane of its width's words is all of it, and the front of itself
 --     input-check     where a state holds cells, the check goes by headers alone
 --     input-holds     an accepted input is held behind the others
@@ -8,8 +8,8 @@ use mathlib.Core.Bool.{Bool, true, false, cond}
 use mathlib.Core.List.{List}
 use Prim.Native.Nat.{ℕ, _+_, _-_, _≤_, _<_}
 use native.Mathlib.Omega.{arith}
-use borrow.Author.Tests.{leb-false, ltb-false}
-use lib.Dec.{leb, ltb}
+use borrow.Author.Tests.{ltb-false}
+use lib.Dec.{ltb}
 use lib.ListN.{length, take}
 use lib.Seq.{take-all}
 use Rattle.refusal.specs.Outcome.{Answer, outcome, after, orRefuse}
@@ -19,11 +19,12 @@ use Rattle.words.proofs.Planes.{value-plane, unknown-plane}
 use Rattle.value.specs.declared.Header.{Header}
 use Rattle.value.specs.Checks.{Vector, vector, checkVector}
 use Rattle.value.proofs.Checks.{Sound, vector-accepted}
-use Rattle.machine.specs.Machine.{headersOf, checkCount, checkRoom}
-use Rattle.layout.specs.Layout.{checkCells}
-use Rattle.layout.proofs.Answers.{not-given}
-use Rattle.layout.proofs.Agreed.{headers-count, next-within}
-use Rattle.store.specs.Store.{State, storeHeaders, nextWord, agrees, roomOf, appended, checkInput, addInput, Holds}
+use Rattle.machine.specs.Machine as machine
+use Rattle.machine.specs.Machine.{holding, headersOf, wordsTaken, checkCount, checkRoom}
+use Rattle.cells.specs.Cells.{checkCells}
+use Rattle.cells.proofs.Answers.{not-given, after-given, count-few}
+use Rattle.cells.proofs.Agreed.{headers-count, next-within, cells-accepted}
+use Rattle.store.specs.Store.{State, storeHeaders, nextWord, agrees, checkStore, roomOf, noScratch, appended, checkInput, addInput, Holds}
 use Rattle.store.specs.Step.{memory}
 use Rattle.store.proofs.Answers.{checkHeader, planes-header}
 use Rattle.store.proofs.Held.{state-agrees, held-count, holds-headers, Storable, storable-vector, append-holds, value-length, Added}
@@ -34,27 +35,38 @@ pub record Accepted (s : State) (h : Header) (p : Planes) : Type 0 where
   pub sound : Sound h p
   pub room : nextWord (s .store) + wordCount (h .width) ≤ length (s .arenas .value)
 
-pub input-accepted : (s : State) (h : Header) (p : Planes) → length (s .store .cells) ≡ 320 → checkInput s h p ≡ given tt → Accepted s h p
-unfolding checkCells
-input-accepted s h p n e =
-    go (agrees s) refl (leb 320 (length (storeHeaders (s .store)))) refl (checkVector h p) refl
-    (ltb (length (s .arenas .value) - nextWord (s .store)) (wordCount (h .width))) refl e
-  where
-    go : (a : Bool) → agrees s ≡ a → (b : Bool) → leb 320 (length (storeHeaders (s .store))) ≡ b → (c : Answer Unit) → checkVector h p ≡ c
-        → (d : Bool) → ltb (length (s .arenas .value) - nextWord (s .store)) (wordCount (h .width)) ≡ d
-        → _≡_ {A = Answer Unit} (after (cond a (given tt) (refused 14)) (after (cond b (refused 12) (given tt)) (after c (cond d (refused 13) (given tt))))) (given tt)
-        → Accepted s h p
-    go false _ b _ c _ d _ e = absurd (not-given 14 tt e)
-    go true _ true _ c _ d _ e = absurd (not-given 12 tt e)
-    go true _ false _ (refused n) _ d _ e = absurd (not-given n tt e)
-    go true _ false _ (given t) _ true _ e = absurd (not-given 13 tt e)
-    go true ea false eb (given t) ec false ed e =
-        record {
-          agreed = ea;
-          few = omega (arith, headers-count (s .store .cells) (s .store .count) n (state-agrees s ea .few), leb-false 320 (length (storeHeaders (s .store))) eb);
-          sound = vector-accepted h p ec;
-          room = omega (arith, next-within (s .arenas) (s .store .cells) (s .store .count) ea, ltb-false (length (s .arenas .value) - nextWord (s .store)) (wordCount (h .width)) ed);
-        }
+module _ (s : State) (h : Header) (p : Planes) (places : length (s .store .cells) ≡ 320) where
+  abbrev count : Answer Unit
+  count = checkCount (length (storeHeaders (s .store)))
+
+  abbrev space : Answer Unit
+  space = checkRoom (roomOf (s .arenas) noScratch) (nextWord (s .store)) (h .width)
+
+  -- the words behind the last cell
+  abbrev left : ℕ
+  left = length (s .arenas .value) - nextWord (s .store)
+
+  pub behind-accepted : agrees s ≡ true → after count (after (checkVector h p) space) ≡ given tt → Accepted s h p
+  behind-accepted g e =
+      let x = after-given count (after (checkVector h p) space) tt e in
+      let y = after-given (checkVector h p) space tt (x .1) in
+      let counted = headers-count (s .store .cells) (s .store .count) places (state-agrees s g .few) in
+      record {
+        agreed = g;
+        few = omega (arith, counted, count-few (length (storeHeaders (s .store))) (x .0));
+        sound = vector-accepted h p (y .0);
+        room = go (ltb left (wordCount (h .width))) refl (y .1);
+      }
+    where
+      go : (b : Bool) → ltb left (wordCount (h .width)) ≡ b → _≡_ {A = Answer Unit} (cond b (refused 13) (given tt)) (given tt)
+          → nextWord (s .store) + wordCount (h .width) ≤ length (s .arenas .value)
+      go true b e = absurd (not-given 13 tt e)
+      go false b e = omega (arith, next-within (s .arenas) (s .store .cells) (s .store .count) g, ltb-false left (wordCount (h .width)) b)
+
+  pub input-accepted : checkInput s h p ≡ given tt → Accepted s h p
+  input-accepted e =
+      let x = after-given (checkStore s) (after count (after (checkVector h p) space)) tt e in
+      behind-accepted (cells-accepted (s .arenas) (s .store .cells) (s .store .count) (x .0)) (x .1)
 
 pub plane-whole : (w : ℕ) (p : List ℕ) → Plane w p → take (wordCount w) p ≡ p
 plane-whole w p h = take-all (wordCount w) p (omega (arith, h .count))
@@ -64,7 +76,7 @@ plane-front w p h = (omega (arith, h .count), subst (Plane w) (sym (plane-whole 
 
 -- ---- where a state holds the cells cs, and the input is a vector of as many bits as its header says
 
-module _ (s : State) (cs : List Vector) (v : Vector) (holds : Holds s cs) (e : length (v .bits) ≡ v .header .width) where
+module _ (s : State) (cs : List machine.Cell) (v : Vector) (holds : Holds s cs) (e : length (v .bits) ≡ v .header .width) where
   header-check : checkVector (v .header) (planesOf (v .bits)) ≡ checkHeader (v .header)
   header-check =
       planes-header (v .header) (planesOf (v .bits))
@@ -72,23 +84,26 @@ module _ (s : State) (cs : List Vector) (v : Vector) (holds : Holds s cs) (e : l
       (subst (λ (w : ℕ). Plane w (unknownPlane (v .bits))) e (unknown-plane (v .bits)))
 
   pub input-check : (scratch : Planes) → checkInput s (v .header) (planesOf (v .bits))
-      ≡ after (checkCount (headersOf cs)) (after (checkHeader (v .header)) (checkRoom (roomOf (s .arenas) scratch) (headersOf cs) (v .header .width)))
+      ≡ after (checkCount (length (headersOf cs)))
+      (after (checkHeader (v .header)) (checkRoom (roomOf (s .arenas) scratch) (wordsTaken (headersOf cs)) (v .header .width)))
   unfolding checkCells
   input-check scratch =
       simp (holds .agreed)
-      (ap₂ (λ (hs : List Header) (x : Answer Unit). after (checkCount hs) (after x (checkRoom (roomOf (s .arenas) scratch) hs (v .header .width))))
+      (ap₂ (λ (hs : List Header) (x : Answer Unit).
+      after (checkCount (length hs)) (after x (checkRoom (roomOf (s .arenas) scratch) (wordsTaken hs) (v .header .width))))
       (holds-headers s cs holds) header-check)
 
   pub input-holds : (scratch : Planes) → checkInput s (v .header) (planesOf (v .bits)) ≡ given tt
-      → let o = addInput s (v .header) (planesOf (v .bits)) in Added (o .answer) (memory s scratch) (memory (o .left) scratch) cs v
+      → let o = addInput s (v .header) (planesOf (v .bits)) in Added (o .answer) (memory s scratch) (memory (o .left) scratch) cs (holding v)
   input-holds scratch c =
       let a = input-accepted s (v .header) (planesOf (v .bits)) (holds .places) c in
       let t : Storable v = record { width = e; narrow = a .sound .planes .narrow; fill = a .sound .fill } in
       let p = planesOf (v .bits) in
-      subst (λ (x : Answer Unit). let o = orRefuse x s (outcome (given (s .store .count)) (appended (vector (v .header) p) s)) in
-      Added (o .answer) (memory s scratch) (memory (o .left) scratch) cs v) (sym c)
-      (subst (λ (r : Vector). Added (given (s .store .count)) (memory s scratch) (memory (appended r s) scratch) cs v) (sym (storable-vector v t)) (record {
+      subst (λ (x : Answer Unit). let o = orRefuse x s (outcome (given (s .store .count)) (appended (holding (vector (v .header) p)) s)) in
+      Added (o .answer) (memory s scratch) (memory (o .left) scratch) cs (holding v)) (sym c)
+      (subst (λ (r : Vector). Added (given (s .store .count)) (memory s scratch) (memory (appended (holding r) s) scratch) cs (holding v))
+      (sym (storable-vector v t)) (record {
         answered = ap given (sym (held-count s cs holds));
-        holds = append-holds s cs v holds t (a .few) (a .room);
-        room = λ k. record { arena = value-length s cs v holds t (a .few) (a .room) k; scratch = roomOf (s .arenas) scratch .scratch };
+        holds = append-holds s cs (holding v) holds t (a .few) (a .room);
+        room = λ k. record { arena = value-length s cs (holding v) holds t (a .few) (a .room) k; scratch = roomOf (s .arenas) scratch .scratch };
       }))

@@ -3,3 +3,7 @@ pub mod Held
 pub mod Inputs
 pub mod Named
 pub mod Steps
+pub mod Placed
+pub mod Rewind
+pub mod Taken
+pub mod Laid

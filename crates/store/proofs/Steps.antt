@@ -1,6 +1,5 @@
 -- A step that is not refused.
---     header-vector   the header of the result, as the machine has it
---     step-admitted   what its check has found
+--     behind-admitted, step-admitted     what the checks behind 14 have found where store and arenas agree, and what all of them have
 --     named-fits      the cells that it names fit
 --     step-storable   a cell can hold its result
 --     worked-front    the scratch planes then begin with its result
@@ -27,39 +26,38 @@ use Rattle.ops.specs.declared.Step.{Step}
 use Rattle.ops.specs.Ops.{armsRefused}
 use Rattle.ops.proofs.Results.{result-width}
 use Rattle.ops.proofs.Accepted.{result-sound}
+use Rattle.machine.specs.Machine as machine
 use Rattle.machine.specs.Machine.{headersOf, headerAt, names, stepHeader, wordsTaken, checkStep, stepCell}
 use Rattle.cells.specs.declared.Cell.{Cell}
-use Rattle.cells.specs.Cells.{cellPlanes, cellVector}
-use Rattle.layout.specs.Layout.{noCell, checkCells, cellNumber, namedCells}
-use Rattle.layout.proofs.Answers.{not-given}
-use Rattle.layout.proofs.Agreed.{headers-count, filled-fits, next-within}
-use Rattle.layout.proofs.Named.{arms-named, header-named}
-use Rattle.store.specs.Store.{State, filled, storeHeaders, nextWord, agrees, appended, roomOf, Holds}
-use Rattle.store.specs.Step.{Memory, memory, checkMemory, stepVector, worked, stepped, addStep}
+use Rattle.cells.specs.Cells.{cellPlanes, cellVector, checkCells}
+use Rattle.cells.specs.Places.{noCell}
+use Rattle.cells.proofs.Answers.{not-given, after-given}
+use Rattle.cells.proofs.Agreed.{headers-count, filled-fits, next-within, cells-accepted}
 use Rattle.cells.proofs.Spans.{Fits, fits-read}
-use Rattle.store.proofs.Held.{state-agrees, held-count, holds-headers, Storable, storable-sound, storable-vector, append-holds, value-length, Added}
 use Rattle.cells.proofs.Tail.{front-is}
-use Rattle.cells.proofs.Named.{NamesFilled, names-within}
-use Rattle.store.proofs.Named.{vector-named}
-
-pub header-vector : (s : State) (step : Step) → stepHeader (storeHeaders (s .store)) step ≡ stepVector s step .header
-header-vector s step = header-named (filled (s .store)) step ∙ sym (ap (λ (v : Vector). v .header) (vector-named s step))
+use Rattle.plan.specs.Planned.{named}
+use Rattle.plan.proofs.Named.{NamesFilled, names-within}
+use Rattle.plan.proofs.Headers.{arms-named}
+use Rattle.store.specs.Store.{State, storeHeaders, nextWord, agrees, checkStore, appended, roomOf, Holds}
+use Rattle.store.specs.Step.{Memory, memory, checkMemory, stepResult, worked, stepped, addStep}
+use Rattle.store.proofs.Held.{state-agrees, held-count, holds-headers, Storable, storable-sound, storable-vector, append-holds, value-length, Added}
+use Rattle.store.proofs.Named.{filledAt, header-filled, header-vector, vector-named}
 
 pub step-added : (m : Memory) (step : Step) (left : State) (scratch : Planes) → checkMemory m step ≡ given tt
-    → left ≡ appended (stepVector (m .state) step) (m .state) → scratch ≡ worked (stepVector (m .state) step) (m .scratch)
+    → left ≡ appended (stepResult (m .state) step) (m .state) → scratch ≡ worked (stepResult (m .state) step) (m .scratch)
     → outcome (given (m .state .store .count)) (memory left scratch) ≡ addStep m step
 step-added m step left scratch accepted stored shown =
     ap₂ (λ (s : State) (p : Planes). outcome (given (m .state .store .count)) (memory s p)) stored shown
-    ∙ sym (ap (λ (x : Answer Unit). orRefuse x m (outcome (given (m .state .store .count)) (stepped (stepVector (m .state) step) m))) accepted)
+    ∙ sym (ap (λ (x : Answer Unit). orRefuse x m (outcome (given (m .state .store .count)) (stepped (stepResult (m .state) step) m))) accepted)
 
 pub record Admitted (m : Memory) (step : Step) : Type 0 where
   pub agreed : agrees (m .state) ≡ true
   pub few : m .state .store .count < 320
   pub all-named : names (m .state .store .count) step ≡ true
-  pub arms : armsRefused (step .op) (namedCells (filled (m .state .store)) step .b .header) (namedCells (filled (m .state .store)) step .c .header) ≡ false
-  pub room : nextWord (m .state .store) + wordCount (stepVector (m .state) step .header .width) ≤ length (m .state .arenas .value)
-  pub value-room : wordCount (stepVector (m .state) step .header .width) ≤ length (m .scratch .value)
-  pub unknown-room : wordCount (stepVector (m .state) step .header .width) ≤ length (m .scratch .unknown)
+  pub arms : armsRefused (step .op) (filledAt (m .state .store) (named step .b) .header) (filledAt (m .state .store) (named step .c) .header) ≡ false
+  pub room : nextWord (m .state .store) + wordCount (stepResult (m .state) step .vector .header .width) ≤ length (m .state .arenas .value)
+  pub value-room : wordCount (stepResult (m .state) step .vector .header .width) ≤ length (m .scratch .value)
+  pub unknown-room : wordCount (stepResult (m .state) step .vector .header .width) ≤ length (m .scratch .unknown)
 
 module _ (m : Memory) (step : Step) (places : length (m .state .store .cells) ≡ 320) where
   abbrev s : State
@@ -77,37 +75,46 @@ module _ (m : Memory) (step : Step) (places : length (m .state .store .cells) �
   abbrev refusedArms : Bool
   refusedArms = armsRefused (step .op) (headerAt hs (step .b)) (headerAt hs (step .c))
 
-  pub step-admitted : checkMemory m step ≡ given tt → Admitted m step
-  unfolding checkCells checkStep
-  step-admitted e =
-      go (agrees s) refl (leb 320 (length hs)) refl (names (length hs) step) refl refusedArms refl
+  arms-filled : refusedArms ≡ armsRefused (step .op) (filledAt (s .store) (named step .b) .header) (filledAt (s .store) (named step .c) .header)
+  arms-filled =
+      arms-named hs step
+      ∙ (λ k. armsRefused (step .op) (header-filled (s .store) (named step .b) k) (header-filled (s .store) (named step .c) k))
+
+  pub behind-admitted : agrees s ≡ true → checkStep (roomOf (s .arenas) (m .scratch)) hs step ≡ given tt → Admitted m step
+  unfolding checkStep
+  behind-admitted ea e =
+      go (leb 320 (length hs)) refl (names (length hs) step) refl refusedArms refl
       (ltb (length (s .arenas .value) - wordsTaken hs) words) refl (ltb scratch words) refl e
     where
-      go : (a : Bool) → agrees s ≡ a → (b : Bool) → leb 320 (length hs) ≡ b → (n : Bool) → names (length hs) step ≡ n → (x : Bool) → refusedArms ≡ x
+      go : (b : Bool) → leb 320 (length hs) ≡ b → (n : Bool) → names (length hs) step ≡ n → (x : Bool) → refusedArms ≡ x
           → (y : Bool) → ltb (length (s .arenas .value) - wordsTaken hs) words ≡ y → (z : Bool) → ltb scratch words ≡ z
-          → _≡_ {A = Answer Unit} (after (cond a (given tt) (refused 14)) (after (cond b (refused 12) (given tt)) (after (cond n (given tt) (refused 11))
-          (after (cond x (refused 7) (given tt)) (after (cond y (refused 13) (given tt)) (cond z (refused 13) (given tt))))))) (given tt)
+          → _≡_ {A = Answer Unit} (after (cond b (refused 12) (given tt)) (after (cond n (given tt) (refused 11))
+          (after (cond x (refused 7) (given tt)) (after (cond y (refused 13) (given tt)) (cond z (refused 13) (given tt)))))) (given tt)
           → Admitted m step
-      go false _ b _ n _ x _ y _ z _ e = absurd (not-given 14 tt e)
-      go true _ true _ n _ x _ y _ z _ e = absurd (not-given 12 tt e)
-      go true _ false _ false _ x _ y _ z _ e = absurd (not-given 11 tt e)
-      go true _ false _ true _ true _ y _ z _ e = absurd (not-given 7 tt e)
-      go true _ false _ true _ false _ true _ z _ e = absurd (not-given 13 tt e)
-      go true _ false _ true _ false _ false _ true _ e = absurd (not-given 13 tt e)
-      go true ea false eb true en false ex false ey false ez e =
+      go true _ n _ x _ y _ z _ e = absurd (not-given 12 tt e)
+      go false _ false _ x _ y _ z _ e = absurd (not-given 11 tt e)
+      go false _ true _ true _ y _ z _ e = absurd (not-given 7 tt e)
+      go false _ true _ false _ true _ z _ e = absurd (not-given 13 tt e)
+      go false _ true _ false _ false _ true _ e = absurd (not-given 13 tt e)
+      go false eb true en false ex false ey false ez e =
           let counted : length hs ≡ s .store .count = headers-count (s .store .cells) (s .store .count) places (state-agrees s ea .few) in
-          let same : words ≡ wordCount (stepVector s step .header .width) = ap (λ (h : Header). wordCount (h .width)) (header-vector s step) in
+          let same : words ≡ wordCount (stepResult s step .vector .header .width) = ap (λ (h : Header). wordCount (h .width)) (header-vector s step) in
           let y : words ≤ length (s .arenas .value) - wordsTaken hs = ltb-false (length (s .arenas .value) - wordsTaken hs) words ey in
           let z : words ≤ scratch = ltb-false scratch words ez in
           record {
             agreed = ea;
             few = omega (arith, counted, leb-false 320 (length hs) eb);
             all-named = ap (λ (n : ℕ). names n step) (sym counted) ∙ en;
-            arms = sym (arms-named (filled (s .store)) step) ∙ ex;
+            arms = sym arms-filled ∙ ex;
             room = omega (arith, next-within (s .arenas) (s .store .cells) (s .store .count) ea, y, same);
             value-room = omega (arith, z, same);
             unknown-room = omega (arith, z, same);
           }
+
+  pub step-admitted : checkMemory m step ≡ given tt → Admitted m step
+  step-admitted e =
+      let x = after-given (checkStore s) (checkStep (roomOf (s .arenas) (m .scratch)) hs step) tt e in
+      behind-admitted (cells-accepted (s .arenas) (s .store .cells) (s .store .count) (x .0)) (x .1)
 
 -- ---- the cells that it names, and its result
 
@@ -118,13 +125,16 @@ module _ (m : Memory) (step : Step) (places : length (m .state .store .cells) �
   within : NamesFilled (m .state .store .count) step
   within = names-within (m .state .store .count) step (h .all-named)
 
-  cell-fits-at : (i : ℕ) → i < m .state .store .count → Fits a (cellNumber (filled (m .state .store)) i .start) (cellNumber (filled (m .state .store)) i)
+  abbrev at : ℕ → Cell
+  at i = filledAt (m .state .store) i
+
+  cell-fits-at : (i : ℕ) → i < m .state .store .count → Fits a (at i .start) (at i)
   cell-fits-at i l = filled-fits a (m .state .store .cells) (m .state .store .count) i noCell places (h .agreed) l
 
   pub record Fitting : Type 0 where
-    pub a-fits : Fits a (namedCells (filled (m .state .store)) step .a .start) (namedCells (filled (m .state .store)) step .a)
-    pub b-fits : Fits a (namedCells (filled (m .state .store)) step .b .start) (namedCells (filled (m .state .store)) step .b)
-    pub c-fits : Fits a (namedCells (filled (m .state .store)) step .c .start) (namedCells (filled (m .state .store)) step .c)
+    pub a-fits : Fits a (at (named step .a) .start) (at (named step .a))
+    pub b-fits : Fits a (at (named step .b) .start) (at (named step .b))
+    pub c-fits : Fits a (at (named step .c) .start) (at (named step .c))
 
   pub named-fits : Fitting
   named-fits = record { a-fits = cell-fits-at _ (within .a); b-fits = cell-fits-at _ (within .b); c-fits = cell-fits-at _ (within .c) }
@@ -132,15 +142,17 @@ module _ (m : Memory) (step : Step) (places : length (m .state .store .cells) �
   sound-at : (c : Cell) → Fits a (c .start) c → Sound (c .header) (cellPlanes a c)
   sound-at c f = fits-read a (c .start) c (state-agrees (m .state) (h .agreed) .level) f .sound
 
-  pub step-storable : Storable (stepVector (m .state) step)
+  pub step-storable : Storable (stepResult (m .state) step .vector)
   step-storable =
-      let o = namedCells (filled (m .state .store)) step in
+      let x = at (named step .a) in
+      let y = at (named step .b) in
+      let z = at (named step .c) in
       let sound =
-      result-sound (o .a .header) (o .b .header) (o .c .header) (cellPlanes a (o .a)) (cellPlanes a (o .b)) (cellPlanes a (o .c)) (step .c)
-      (sound-at (o .a) (named-fits .a-fits)) (sound-at (o .b) (named-fits .b-fits)) (sound-at (o .c) (named-fits .c-fits)) (step .op) (h .arms) in
+      result-sound (x .header) (y .header) (z .header) (cellPlanes a x) (cellPlanes a y) (cellPlanes a z) (step .c)
+      (sound-at x (named-fits .a-fits)) (sound-at y (named-fits .b-fits)) (sound-at z (named-fits .c-fits)) (step .op) (h .arms) in
       subst Storable (sym (vector-named (m .state) step)) (record {
         width =
-            result-width (cellVector a (o .a)) (cellVector a (o .b)) (cellVector a (o .c)) (step .c)
+            result-width (cellVector a x) (cellVector a y) (cellVector a z) (step .c)
             (length-tabulate _ _) (length-tabulate _ _) (length-tabulate _ _) (step .op) (h .arms);
         narrow = sound .planes .narrow;
         fill = sound .fill;
@@ -156,21 +168,24 @@ pub record Front (h : Header) (r : Vector) (p : Planes) : Type 0 where
   pub unknown-plane : Plane (h .width) (take (wordCount (h .width)) (p .unknown))
   pub holds : vector h (lent (take (wordCount (h .width)) (p .value)) (take (wordCount (h .width)) (p .unknown))) ≡ r
 
-module _ (r : Vector) (scratch : Planes) (t : Storable r) (hv : wordCount (r .header .width) ≤ length (scratch .value))
-    (hu : wordCount (r .header .width) ≤ length (scratch .unknown)) where
+module _ (c : machine.Cell) (scratch : Planes) (t : Storable (c .vector)) (hv : wordCount (c .vector .header .width) ≤ length (scratch .value))
+    (hu : wordCount (c .vector .header .width) ≤ length (scratch .unknown)) where
+  abbrev r : Vector
+  r = c .vector
+
   abbrev n : ℕ
   n = wordCount (r .header .width)
 
   planes : Checked (r .header .width) (planesOf (r .bits))
   planes = storable-sound r t .planes
 
-  v : (take n (worked r scratch .value) ≡ valuePlane (r .bits)) × (length (worked r scratch .value) ≡ length (scratch .value))
+  v : (take n (worked c scratch .value) ≡ valuePlane (r .bits)) × (length (worked c scratch .value) ≡ length (scratch .value))
   v = front-is n (valuePlane (r .bits)) (scratch .value) (planes .value-plane .count) hv
 
-  u : (take n (worked r scratch .unknown) ≡ unknownPlane (r .bits)) × (length (worked r scratch .unknown) ≡ length (scratch .unknown))
+  u : (take n (worked c scratch .unknown) ≡ unknownPlane (r .bits)) × (length (worked c scratch .unknown) ≡ length (scratch .unknown))
   u = front-is n (unknownPlane (r .bits)) (scratch .unknown) (planes .unknown-plane .count) hu
 
-  pub worked-front : Front (r .header) r (worked r scratch)
+  pub worked-front : Front (r .header) r (worked c scratch)
   worked-front = record {
     value-long = omega (arith, v .1, hv);
     unknown-long = omega (arith, u .1, hu);
@@ -179,12 +194,12 @@ module _ (r : Vector) (scratch : Planes) (t : Storable r) (hv : wordCount (r .he
     holds = ap₂ (λ (x y : List ℕ). vector (r .header) (lent x y)) (v .0) (u .0) ∙ storable-vector r t;
   }
 
-  worked-room : (a b : Planes) → length (b .value) ≡ length (a .value) → roomOf b (worked r scratch) ≡ roomOf a scratch
+  worked-room : (a b : Planes) → length (b .value) ≡ length (a .value) → roomOf b (worked c scratch) ≡ roomOf a scratch
   worked-room a b e = λ k. record { arena = e k; scratch = min (v .1 k) (u .1 k) }
 
 -- ---- where a state holds the cells cs
 
-module _ (s : State) (cs : List Vector) (p : Planes) (step : Step) (holds : Holds s cs) where
+module _ (s : State) (cs : List machine.Cell) (p : Planes) (step : Step) (holds : Holds s cs) where
   abbrev before : Memory
   before = memory s p
 
@@ -192,8 +207,8 @@ module _ (s : State) (cs : List Vector) (p : Planes) (step : Step) (holds : Hold
   unfolding checkCells
   step-check = simp (holds .agreed) (ap (λ (hs : List Header). checkStep (roomOf (s .arenas) p) hs step) (holds-headers s cs holds))
 
-  abbrev r : Vector
-  r = stepVector s step
+  abbrev result : machine.Cell
+  result = stepResult s step
 
   pub step-holds : checkStep (roomOf (s .arenas) p) (headersOf cs) step ≡ given tt
       → let o = addStep before step in Added (o .answer) before (o .left) cs (stepCell cs step)
@@ -201,10 +216,12 @@ module _ (s : State) (cs : List Vector) (p : Planes) (step : Step) (holds : Hold
       let h = step-admitted before step (holds .places) (step-check ∙ e) in
       let t = step-storable before step (holds .places) h in
       subst (λ (x : Answer Unit).
-      let o = orRefuse x before (outcome (given (s .store .count)) (stepped r before)) in Added (o .answer) before (o .left) cs (stepCell cs step))
+      let o = orRefuse x before (outcome (given (s .store .count)) (stepped result before)) in Added (o .answer) before (o .left) cs (stepCell cs step))
       (sym (step-check ∙ e))
-      (subst (Added (given (s .store .count)) before (stepped r before) cs) (ap (λ (l : List Vector). stepCell l step) (holds .cells)) (record {
+      (subst (Added (given (s .store .count)) before (stepped result before) cs) (ap (λ (l : List machine.Cell). stepCell l step) (holds .cells)) (record {
         answered = ap given (sym (held-count s cs holds));
-        holds = append-holds s cs r holds t (h .few) (h .room);
-        room = worked-room r p t (h .value-room) (h .unknown-room) (s .arenas) (appended r s .arenas) (value-length s cs r holds t (h .few) (h .room));
+        holds = append-holds s cs result holds t (h .few) (h .room);
+        room =
+            worked-room result p t (h .value-room) (h .unknown-room) (s .arenas) (appended result s .arenas)
+            (value-length s cs result holds t (h .few) (h .room));
       }))

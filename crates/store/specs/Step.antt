@@ -6,9 +6,8 @@ use denote.Ref.{RefT}
 use Rattle.refusal.specs.Outcome.{Answer, Outcome, outcome, after, orRefuse}
 use Rattle.refusal.specs.Outcome.Answer.{given}
 use Rattle.words.specs.Planes.{Planes, lentBy, planesOf}
-use Rattle.value.specs.Checks.{Vector}
 use Rattle.ops.specs.declared.Step.{Step}
-use Rattle.machine.specs.Machine.{checkStep, stepCell}
+use Rattle.machine.specs.Machine.{Cell, checkStep, stepCell}
 use Rattle.cells.specs.Cells.{putPlanes}
 use Rattle.store.specs.declared.Store.{Store}
 use Rattle.store.specs.Store.{State, stateBy, storeHeaders, cellsOf, checkStore, roomOf, appended}
@@ -31,17 +30,17 @@ checkMemory m step =
     after (checkStore (m .state)) (checkStep (roomOf (m .state .arenas) (m .scratch)) (storeHeaders (m .state .store)) step)
 
 -- what document 01 gives for the step and the cells it names
-abbrev pub stepVector : State → Step → Vector
-stepVector s step = stepCell (cellsOf s) step
+abbrev pub stepResult : State → Step → Cell
+stepResult s step = stepCell (cellsOf s) step
 
 -- each scratch plane begins with the result and is unchanged beyond it
-abbrev pub worked : Vector → Planes → Planes
-worked r scratch = putPlanes 0 (planesOf (r .bits)) scratch
+abbrev pub worked : Cell → Planes → Planes
+worked c scratch = putPlanes 0 (planesOf (c .vector .bits)) scratch
 
 -- the result is the next cell
-abbrev pub stepped : Vector → Memory → Memory
-stepped r m = memory (appended r (m .state)) (worked r (m .scratch))
+abbrev pub stepped : Cell → Memory → Memory
+stepped c m = memory (appended c (m .state)) (worked c (m .scratch))
 
 -- `add_step`: the answer is the new cell's number; a refusal leaves all
 abbrev pub addStep : Memory → Step → Outcome ℕ Memory
-addStep m step = orRefuse (checkMemory m step) m (outcome (given (m .state .store .count)) (stepped (stepVector (m .state) step) m))
+addStep m step = orRefuse (checkMemory m step) m (outcome (given (m .state .store .count)) (stepped (stepResult (m .state) step) m))

@@ -11,12 +11,14 @@ use Rattle.refusal.specs.Outcome.{Answer, Outcome, outcome, after, orRefuse}
 use Rattle.refusal.specs.Outcome.Answer.{given, refused}
 use Rattle.words.specs.Planes.{Planes, lent, lentBy, planesOf}
 use Rattle.value.specs.declared.Header.{Header}
-use Rattle.value.specs.Checks.{Vector, vector, checkVector}
-use Rattle.machine.specs.Machine.{Room, checkCount, checkRoom}
+use Rattle.value.specs.Checks.{vector, checkVector}
+use Rattle.machine.specs.declared.Room.{Room}
+use Rattle.machine.specs.Machine as machine
+use Rattle.machine.specs.Machine.{holding, checkCount, checkRoom}
 use Rattle.cells.specs.declared.Cell.{Cell}
-use Rattle.cells.specs.Cells.{cellVector, cellHeaders, putPlanes}
-pub use Rattle.layout.specs.Layout.{noCell}
-use Rattle.layout.specs.Layout.{wordBehind, agree, checkCells}
+use Rattle.cells.specs.declared.Fields.{Fields}
+use Rattle.cells.specs.Cells.{cellVector, cellHeaders, wordBehind, agree, checkCells, putPlanes}
+use Rattle.cells.specs.Places.{placesOf, noCell}
 use Rattle.store.specs.declared.Store.{Store}
 use Rattle.store.specs.declared.CellAnswer.{CellAnswer}
 use Rattle.store.specs.declared.CellAnswer.the-variants as cell-answer
@@ -43,6 +45,10 @@ stateBy s av au = state s (lentBy av au)
 unfoldable pub emptyStore : Store
 emptyStore = record { cells = replicate 320 noCell; count = 0 }
 
+-- n cells are filled, and place i of the 320 has the i-th of each list
+abbrev pub storeOf : ℕ → Fields → Store
+storeOf n f = record { cells = placesOf f; count = n }
+
 -- the filled cells, in order
 abbrev pub filled : Store → List Cell
 filled s = take (s .count) (s .cells)
@@ -55,8 +61,8 @@ abbrev pub nextWord : Store → ℕ
 nextWord s = wordBehind (filled s)
 
 -- the cells' headers and bits, in order
-abbrev pub cellsOf : State → List Vector
-cellsOf s = map (cellVector (s .arenas)) (filled (s .store))
+abbrev pub cellsOf : State → List machine.Cell
+cellsOf s = map (λ (c : Cell). holding (cellVector (s .arenas) c)) (filled (s .store))
 
 -- ---- 14, store and arenas disagree
 
@@ -71,9 +77,9 @@ checkStore s = checkCells (s .arenas) (s .store .cells) (s .store .count)
 abbrev pub putCell : Header → Store → Store
 putCell h s = record { cells = set (s .cells) (s .count) (record { start = nextWord s; header = h }); count = s .count + 1 }
 
--- the vector is the next cell
-abbrev pub appended : Vector → State → State
-appended r s = state (putCell (r .header) (s .store)) (putPlanes (nextWord (s .store)) (planesOf (r .bits)) (s .arenas))
+-- c is the next cell
+abbrev pub appended : machine.Cell → State → State
+appended c s = state (putCell (c .vector .header) (s .store)) (putPlanes (nextWord (s .store)) (planesOf (c .vector .bits)) (s .arenas))
 
 -- ---- `add_input`
 
@@ -89,17 +95,17 @@ noScratch = lent [] []
 abbrev pub checkInput : State → Header → Planes → Answer Unit
 checkInput s h p =
     after (checkStore s)
-    (after (checkCount (storeHeaders (s .store)))
-    (after (checkVector h p) (checkRoom (roomOf (s .arenas) noScratch) (storeHeaders (s .store)) (h .width))))
+    (after (checkCount (length (storeHeaders (s .store))))
+    (after (checkVector h p) (checkRoom (roomOf (s .arenas) noScratch) (nextWord (s .store)) (h .width))))
 
 -- the input is the next cell, and the answer is that cell's number
 abbrev pub addInput : State → Header → Planes → Outcome ℕ State
-addInput s h p = orRefuse (checkInput s h p) s (outcome (given (s .store .count)) (appended (vector h p) s))
+addInput s h p = orRefuse (checkInput s h p) s (outcome (given (s .store .count)) (appended (holding (vector h p)) s))
 
 -- ---- what a state holds
 
 -- store and arenas agree, and the filled cells' headers and bits are those of cs, in order; the store's array has 320 places
-pub record Holds (s : State) (cs : List Vector) : Type 0 where
+pub record Holds (s : State) (cs : List machine.Cell) : Type 0 where
   pub places : length (s .store .cells) ≡ 320
   pub agreed : agrees s ≡ true
   pub cells : cellsOf s ≡ cs

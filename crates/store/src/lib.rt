@@ -1,18 +1,17 @@
 // The cell store: at most 320 vectors, numbered from 0, whose words lie one behind the other in two lent arenas. The store goes in by
 // value and comes back by value, inside the answer.
 use cells::Cell;
-use cells::unchecked::work_cells;
-use layout::PlaceAnswer;
-use layout::StepAnswer;
-use layout::unchecked::check_cells;
-use layout::unchecked::place_step;
+use cells::PlaceAnswer;
+use cells::unchecked::check_cells;
 use ops::Step;
+use plan::PlanAnswer;
 use refusal::Refusal;
-use refusal::Verdict;
+use unchecked::fields_of;
+use unchecked::take_input;
+use unchecked::take_step;
+use unchecked::with_cell;
 use value::Header;
-use value::check_vector;
 use value::plain_header;
-use words::word_count;
 ghost use mathlib.Core.Path.{_≡_};
 ghost use Rattle.refusal.specs.Outcome.{outcome};
 ghost use Rattle.words.specs.Planes.{lentBy};
@@ -72,25 +71,15 @@ impl Store {
                 answer: CellAnswer::Refused(r),
                 store: self,
             },
-            PlaceAnswer::At(at) => match check_vector(h, value, unknown) {
-                Verdict::Refused(r) => Stored {
+            PlaceAnswer::At(next) => match take_input(self.count, next, h, value, unknown, av, au) {
+                PlaceAnswer::Refused(r) => Stored {
                     answer: CellAnswer::Refused(r),
                     store: self,
                 },
-                Verdict::Accepted => {
-                    if av.len() - at < word_count(h.width) {
-                        Stored {
-                            answer: CellAnswer::Refused(Refusal::NoRoom),
-                            store: self,
-                        }
-                    } else {
-                        let s = unchecked::append(self, at, h, value, unknown, av, au);
-                        Stored {
-                            answer: CellAnswer::Added(self.count),
-                            store: s,
-                        }
-                    }
-                }
+                PlaceAnswer::At(at) => Stored {
+                    answer: CellAnswer::Added(self.count),
+                    store: with_cell(self, at, h),
+                },
             },
         }
     }
@@ -108,18 +97,34 @@ impl Store {
             ≡ addStep (memoryBy self (av .entry) (au .entry) (sv .entry) (su .entry)) step ⌝ }
     {
         let cells = self.cells;
-        match place_step(cells, self.count, step, av, au, sv.len(), su.len()) {
-            StepAnswer::Refused(r) => Stored {
+        match check_cells(cells, self.count, av, au) {
+            PlaceAnswer::Refused(r) => Stored {
                 answer: CellAnswer::Refused(r),
                 store: self,
             },
-            StepAnswer::At(at, o, h) => {
-                let op = step.op;
-                work_cells(op, o, h, step.c as usize, av, au, sv, su);
-                let s = unchecked::append(self, at, h, sv, su, av, au);
-                Stored {
-                    answer: CellAnswer::Added(self.count),
-                    store: s,
+            PlaceAnswer::At(next) => {
+                let f = fields_of(self);
+                match take_step(
+                    step,
+                    self.count,
+                    next,
+                    &f.starts,
+                    &f.widths,
+                    &f.signs,
+                    &f.fills,
+                    av,
+                    au,
+                    sv,
+                    su,
+                ) {
+                    PlanAnswer::Refused(r) => Stored {
+                        answer: CellAnswer::Refused(r),
+                        store: self,
+                    },
+                    PlanAnswer::Planned(p) => Stored {
+                        answer: CellAnswer::Added(self.count),
+                        store: with_cell(self, p.start, p.header),
+                    },
                 }
             }
         }

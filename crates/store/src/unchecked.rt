@@ -1,44 +1,154 @@
-// A cell put behind the last.
+// A store as four arrays and back, one cell more, and an input and a step taken where store and arenas agree.
 use crate::Store;
 use cells::Cell;
+use cells::Fields;
+use cells::PlaceAnswer;
+use cells::no_fields;
+use cells::unchecked::cell_at;
+use cells::unchecked::copy_behind;
+use execute::unchecked::execute;
+use machine::Room;
+use ops::Step;
+use plan::PlanAnswer;
+use plan::unchecked::plan_input;
+use plan::unchecked::plan_step;
 use value::Header;
-use words::unchecked::copy_front;
+use value::check_vector;
 use words::word_count;
 ghost use mathlib.Core.Path.{_≡_};
-ghost use Prim.Native.Nat.{_≤_, _<_, _+_};
-ghost use lib.ListN.{length, take};
-ghost use Rattle.words.specs.Planes.{wordCount, lent, Plane};
-ghost use Rattle.value.specs.Checks.{vector};
-ghost use Rattle.store.specs.Store.{stateBy, nextWord, appended};
+ghost use Prim.Native.Nat.{_≤_, _<_, min};
+ghost use lib.ListN.{length};
+ghost use Rattle.refusal.specs.Outcome.{outcome};
+ghost use Rattle.words.specs.Planes.{lentBy};
+ghost use Rattle.cells.specs.Cells.{placeAnswer};
+ghost use Rattle.cells.specs.Places.{fieldsBy, fieldsOf};
+ghost use Rattle.store.specs.Store.{storeOf};
+ghost use Rattle.store.specs.Step.{memoryBy, addStep};
+ghost use Rattle.store.specs.Taken.{Laid, withCell, takeInput, takenAnswer, takenStore};
 
-// Puts the vector that two planes begin with behind the last cell, where the next one begins.
-pub fn append(
-    s: Store,
-    at: usize,
+// The store that four arrays say.
+pub fn store_of<'a>(
+    count: usize,
+    starts: &'a [usize; 320],
+    widths: &'a [u32; 320],
+    signs: &'a [bool; 320],
+    fills: &'a [bool; 320],
+) -> Store
+    ensures { λ r. ⌜ r
+        ≡ storeOf count (fieldsBy (starts .entry) (widths .entry) (signs .entry) (fills .entry)) ⌝ }
+{
+    let mut s = Store::new();
+    let mut i = 0;
+    while i < 320 {
+        s.cells[i] = cell_at(i, starts, widths, signs, fills);
+        i += 1;
+    }
+    s.count = count;
+    s
+}
+
+// The four arrays of a store.
+pub fn fields_of(s: Store) -> Fields
+    ensures { λ r. ⌜ r ≡ fieldsOf (s .cells) ⌝ }
+{
+    let mut f = no_fields();
+    let mut i = 0;
+    while i < 320 {
+        let c = s.cells[i];
+        let h = c.header;
+        f.starts[i] = c.start;
+        f.widths[i] = h.width;
+        f.signs[i] = h.is_signed;
+        f.fills[i] = h.is_fill;
+        i += 1;
+    }
+    f
+}
+
+// The store with one cell more.
+pub fn with_cell(s: Store, start: usize, header: Header) -> Store
+    requires { ⌜ s .count < 320 ⌝ }
+    ensures { λ r. ⌜ r ≡ withCell start header s ⌝ }
+{
+    let k = s.count;
+    let mut t = s;
+    t.cells[k] = Cell {
+        start: start,
+        header: header,
+    };
+    t.count = k + 1;
+    t
+}
+
+// Puts a vector behind `count` cells that take the first `next` words of the arenas: the word at which it begins, or its refusal.
+pub fn take_input(
+    count: usize,
+    next: usize,
     h: Header,
     value: &[u64],
     unknown: &[u64],
     av: &mut [u64],
     au: &mut [u64],
-) -> Store
-    requires { ⌜ (s .count < 320) × (at ≡ nextWord s) ⌝ }
-    requires { ⌜ (wordCount (h .width) ≤ length (now value)) × Plane (h .width) (take (wordCount (h .width)) (now value)) ⌝ }
-    requires { ⌜ (wordCount (h .width) ≤ length (now unknown)) × Plane (h .width) (take (wordCount (h .width)) (now unknown)) ⌝ }
-    requires { ⌜ (at + wordCount (h .width) ≤ length (now av)) × (at + wordCount (h .width) ≤ length (now au)) ⌝ }
-    ensures { λ r. ⌜ stateBy r (av .exit) (au .exit)
-        ≡ appended
-        (vector h (lent (take (wordCount (h .width)) (now (value .entry))) (take (wordCount (h .width)) (now (unknown .entry)))))
-        (stateBy s (av .entry) (au .entry)) ⌝ }
+) -> PlaceAnswer
+    requires { ⌜ (next ≤ length (now av)) × (length (now av) ≡ length (now au)) ⌝ }
+    ensures { λ r. ⌜ outcome (placeAnswer r) (lentBy (av .exit) (au .exit))
+        ≡ takeInput count next h (lentBy (value .entry) (unknown .entry)) (lentBy (av .entry) (au .entry)) ⌝ }
 {
-    let n = word_count(h.width);
-    copy_front(&mut av[at..], value, n);
-    copy_front(&mut au[at..], unknown, n);
-    let k = s.count;
-    let mut t = s;
-    t.cells[k] = Cell {
-        start: at,
-        header: h,
+    let checked = check_vector(h, value, unknown);
+    let room = Room {
+        arena: av.len(),
+        scratch: 0,
     };
-    t.count = k + 1;
-    t
+    match plan_input(count, next, h.width, checked, room) {
+        PlaceAnswer::Refused(r) => PlaceAnswer::Refused(r),
+        PlaceAnswer::At(at) => {
+            copy_behind(at, word_count(h.width), value, unknown, av, au);
+            PlaceAnswer::At(at)
+        }
+    }
+}
+
+// The smaller of two numbers of words.
+fn fewer(a: usize, b: usize) -> usize
+    ensures { λ r. ⌜ r ≡ min a b ⌝ }
+{
+    if a < b { a } else { b }
+}
+
+// Plans a step on the first `count` cells, which take the first `next` words of the arenas, and executes it if it is not refused.
+pub fn take_step<'a>(
+    step: Step,
+    count: usize,
+    next: usize,
+    starts: &'a [usize; 320],
+    widths: &'a [u32; 320],
+    signs: &'a [bool; 320],
+    fills: &'a [bool; 320],
+    av: &mut [u64],
+    au: &mut [u64],
+    sv: &mut [u64],
+    su: &mut [u64],
+) -> PlanAnswer
+    requires { ⌜ Laid (fieldsBy starts widths signs fills) count next (lentBy av au) ⌝ }
+    ensures { λ r. ⌜ outcome (takenAnswer count r)
+        (memoryBy
+        (takenStore r (storeOf count (fieldsBy (starts .entry) (widths .entry) (signs .entry) (fills .entry))))
+        (av .exit) (au .exit) (sv .exit) (su .exit))
+        ≡ addStep
+        (memoryBy
+        (storeOf count (fieldsBy (starts .entry) (widths .entry) (signs .entry) (fills .entry)))
+        (av .entry) (au .entry) (sv .entry) (su .entry))
+        step ⌝ }
+{
+    let room = Room {
+        arena: av.len(),
+        scratch: fewer(sv.len(), su.len()),
+    };
+    match plan_step(step, count, next, widths, signs, fills, room) {
+        PlanAnswer::Refused(r) => PlanAnswer::Refused(r),
+        PlanAnswer::Planned(p) => {
+            execute(p, starts, widths, signs, fills, av, au, sv, su);
+            PlanAnswer::Planned(p)
+        }
+    }
 }

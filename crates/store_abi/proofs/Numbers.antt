@@ -4,7 +4,7 @@ use lib.Dec.{lit<}
 use Rattle.refusal.specs.declared.Refusal.{Refusal}
 use Rattle.refusal.specs.declared.Refusal.the-variants.{TooWide, PlaneLength, BitAboveWidth, EmptyFill, OutputLength, BadFormat, BadArms, NoSuchCell, StoreFull, NoRoom, BadStore}
 use Rattle.refusal.specs.Refusals.{refusalNumber}
-use Rattle.store_abi.specs.Fields.{noSuchOp}
+use Rattle.store_abi.specs.Settled.{noSuchOp}
 
 -- no refusal has the number of a code that is no op's: each one's number is below it
 pub below-no-such-op : (r : Refusal) → refusalNumber r < noSuchOp

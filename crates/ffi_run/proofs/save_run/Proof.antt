@@ -3,8 +3,8 @@ use mathlib.Core.Path.{sym, ap, _∙_}
 use mathlib.Core.Bool.{Bool, cond}
 use Prim.Native.Nat.{ℕ}
 use lib.Dec.{eqb}
-use Rattle.store_abi.specs.declared.Fields.{Fields}
-use Rattle.store_abi.specs.Fields.{fieldsBy, fieldsOf}
+use Rattle.cells.specs.declared.Fields.{Fields}
+use Rattle.cells.specs.Places.{fieldsBy, fieldsOf}
 use borrow.Author.Tests.{eq-eqb, ne-eqb}
 use borrow.Author.Needs.{needs}
 use Rattle.ffi_run.proofs.save_run.Statement.{statement}
@@ -12,7 +12,7 @@ use Rattle.ffi_run.proofs.save_run.Tie as tie
 
 -- the fields by what the test says
 abbrev saved : tie.After-end-number → Bool → Fields
-saved t b = let g = t .before .args in cond b (fieldsBy (g .starts) (g .widths) (g .signs) (g .fills)) (fieldsOf (g .r .store))
+saved t b = let g = t .before .args in cond b (fieldsBy (g .starts) (g .widths) (g .signs) (g .fills)) (fieldsOf (g .r .store .cells))
 
 end-number-requires : tie.Need-end-number-requires
 end-number-requires c κs = search needs

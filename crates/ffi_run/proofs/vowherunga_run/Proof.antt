@@ -4,7 +4,7 @@ use borrow.Author.Needs.{needs}
 use Rattle.words.specs.Planes.{lent}
 use Rattle.lines.specs.Buffer.{buffer}
 use Rattle.steps.specs.Run.{endingOf, runText, finalOf}
-use Rattle.store_abi.specs.Fields.{fields}
+use Rattle.cells.specs.Places.{fields}
 use Rattle.ffi_run.proofs.Crossing.{result, run-crosses}
 use Rattle.ffi_run.proofs.vowherunga_run.Statement.{statement}
 use Rattle.ffi_run.proofs.vowherunga_run.Tie as tie

@@ -5,7 +5,8 @@ use Rattle.words.specs.Planes.{lent}
 use Rattle.ops.specs.Names.{opOf}
 use Rattle.store.specs.Store.{state, cellAnswer}
 use Rattle.store.specs.Step.{memory}
-use Rattle.store_abi.specs.Fields.{fields, settled}
+use Rattle.cells.specs.Places.{fields}
+use Rattle.store_abi.specs.Settled.{settled}
 use Rattle.ffi_store.proofs.Crossing.{no-op-crosses, step-crosses}
 use Rattle.ffi_store.proofs.vowherunga_add_step.Statement.{statement}
 use Rattle.ffi_store.proofs.vowherunga_add_step.Tie as tie
@@ -19,8 +20,8 @@ enum-told c = search needs
 enum-known-o : tie.Need-enum-known-o
 enum-known-o c = search needs
 
-load-requires : tie.Need-load-requires
-load-requires c κs = search needs
+store-of-requires : tie.Need-store-of-requires
+store-of-requires c κs = search needs
 
 add-step-requires : tie.Need-add-step-requires
 add-step-requires c κs = search needs
@@ -58,7 +59,7 @@ returns-2 c =
     let d = i .add-step .last .1 .1 in
     let t = c .settle .last .1 in
     step-crosses (g .count) (fields (g .starts .now) (g .widths .now) (g .signs .now) (g .fills .now)) (lent (g .arena-value .now) (g .arena-unknown .now))
-    (l .load .result) (l .load .ensures)
+    (l .store-of .result) (l .store-of .ensures)
     (lent (g .scratch-value .now) (g .scratch-unknown .now)) (k .o .given .0 .0) (opOf (g .op)) (g .a) (g .b) (g .c)
     (cellAnswer (r .answer)) (memory (state (r .store) (lent (d .0) (d .1 .0))) (lent (d .1 .1 .0) (d .1 .1 .1 .0)))
     (settled (c .settle .result) (fields (t .0) (t .1 .0) (t .1 .1 .0) (t .1 .1 .1 .0)))
@@ -71,7 +72,7 @@ vowherunga-add-step-spec =
     op-of-requires
     enum-told
     enum-known-o
-    load-requires
+    store-of-requires
     add-step-requires
     settle-requires
     returns

@@ -1,7 +1,7 @@
 -- By cases of the answer.
 use mathlib.Core.Path.{ap}
 use Rattle.store_abi.specs.declared.CellResult.{CellResult}
-use Rattle.store_abi.specs.Fields.{settled}
+use Rattle.store_abi.specs.Settled.{settled}
 use borrow.Author.Needs.{needs}
 use Rattle.store_abi.proofs.settle.Statement.{statement}
 use Rattle.store_abi.proofs.settle.Tie as tie

@@ -1,23 +1,23 @@
--- `store::Store::add_input`: each check on the way decides; a vector that none refuses is put behind the last cell.
-use mathlib.Core.Path.{_≡_, sym, ap, ap₂, _∙_}
-use mathlib.Core.List.{List}
-use Prim.Native.Nat.{ℕ, _-_, _≤_, _<_}
+-- `store::Store::add_input`: 14, then what is taken.
+use mathlib.Core.Path.{_≡_, sym, ap, _∙_}
+use mathlib.Core.Bool.{true}
+use Prim.Native.Nat.{ℕ}
 use native.Mathlib.Omega.{arith}
-use borrow.Author.Tests.{lt-leb, lt-ltb, le-ltb}
 use lib.ListN.{length, length-map}
 use Rattle.refusal.specs.Refusals.{refusalNumber}
-use Rattle.refusal.specs.Outcome.{Answer, Outcome, outcome, orRefuse}
-use Rattle.refusal.specs.Outcome.Answer.{given, refused}
-use Rattle.words.specs.Planes.{wordCount, Planes, lent}
-use Rattle.value.specs.Checks.{vector, checkVector}
-use Rattle.machine.specs.Machine.{checkCount}
-use Rattle.layout.specs.Layout.{placeAnswer}
-use Rattle.layout.proofs.Answers.{both-given, both-refused, count-few}
-use Rattle.layout.proofs.Agreed.{cells-accepted, next-within}
-use Rattle.store.specs.Store.{State, state, storeHeaders, nextWord, checkStore, appended, checkInput}
-use Rattle.value.proofs.Checks.{verdict-told}
+use Rattle.refusal.specs.Outcome.{outcome}
+use Rattle.refusal.specs.Outcome.Answer.{given}
+use Rattle.words.specs.Planes.{Planes, lent}
+use Rattle.cells.specs.declared.PlaceAnswer.{PlaceAnswer}
+use Rattle.cells.specs.declared.PlaceAnswer.the-variants.{At, Refused}
+use Rattle.cells.specs.Cells.{placeAnswer}
+use Rattle.cells.proofs.Answers.{answer-given, answer-refused}
+use Rattle.cells.proofs.Agreed.{cells-accepted, next-within}
+use Rattle.store.specs.declared.Store.{Store}
+use Rattle.store.specs.Store.{State, state, nextWord, agrees, checkStore}
+use Rattle.store.specs.Taken.{takeInput}
 use Rattle.store.proofs.Held.{state-agrees}
-use Rattle.store.proofs.Inputs.{Accepted, input-accepted, plane-whole, plane-front}
+use Rattle.store.proofs.Taken.{store-refused, input-few, input-refused, input-taken}
 use borrow.Author.Needs.{needs}
 use Rattle.store.proofs.Store.add_input.Statement.{statement}
 use Rattle.store.proofs.Store.add_input.Tie as tie
@@ -31,183 +31,89 @@ all k = state (st k .args .self) (lent (st k .args .av .now) (st k .args .au .no
 abbrev input : tie.After-check-cells → Planes
 input k = lent (st k .args .value .now) (st k .args .unknown .now)
 
--- what the check answers is what the call does
-abbrev by : tie.After-check-cells → Answer Unit → Outcome ℕ State
-by k x = orRefuse x (all k) (outcome (given (all k .store .count)) (appended (vector (st k .args .h) (input k)) (all k)))
+places : (k : tie.After-check-cells) → length (st k .args .self .cells) ≡ 320
+places k = simp length-map at (st k .good .0 .1 .1 .0 .1 .0 .1)
 
--- the store's check found where the next cell begins
+-- not 14
 module _ (t : tie.After-known-told2) where
   abbrev k : tie.After-check-cells
   k = t .before .before .before
 
-  abbrev hs : ℕ
-  hs = length (storeHeaders (st k .args .self))
-
-  found : (checkStore (all k) ≡ given tt) × (checkCount (storeHeaders (st k .args .self)) ≡ given tt) × (nextWord (st k .args .self) ≡ t .before .at .given .0 .0)
+  found : (checkStore (all k) ≡ given tt) × (nextWord (st k .args .self) ≡ t .before .next .given .0 .0)
   found =
-      both-given (checkStore (all k)) (checkCount (storeHeaders (st k .args .self))) (nextWord (st k .args .self)) (t .before .at .given .0 .0)
-      (sym (k .check-cells .ensures) ∙ ap placeAnswer (t .before .at .given .1))
+      answer-given (checkStore (all k)) (nextWord (st k .args .self)) (t .before .next .given .0 .0)
+      (sym (k .check-cells .ensures) ∙ ap placeAnswer (t .before .next .given .1))
 
-  few : hs < 320
-  few = count-few hs (found .1)
+  agreed : agrees (all k) ≡ true
+  agreed = cells-accepted (all k .arenas) (all k .store .cells) (all k .store .count) (found .0)
 
-  within : nextWord (st k .args .self) ≤ length (all k .arenas .value)
-  within =
-      let a = all k .arenas in
-      let s = st k .args .self in
-      next-within a (s .cells) (s .count) (cells-accepted a (s .cells) (s .count) (found .0))
+-- what was taken
+module _ (i : tie.After-take-input) where
+  abbrev t : tie.After-known-told2
+  t = i .before .before .before
 
-abbrev told : tie.After-word-count → tie.After-known-told2
-told w = w .before .before .before .before
+  abbrev left : Planes
+  left = lent (i .take-input .last .1 .1 .1 .1 .1 .0) (i .take-input .last .1 .1 .1 .1 .1 .1 .0)
 
--- the vector is in order
-module _ (w : tie.After-word-count) where
-  abbrev begin : tie.After-check-cells
-  begin = k (told w)
+  told : (x : PlaceAnswer) → i .take-input .result ≡ x
+      → let s = all (k t) in outcome (placeAnswer x) left ≡ takeInput (s .store .count) (nextWord (s .store)) (st (k t) .args .h) (input (k t)) (s .arenas)
+  told x e =
+      let s = all (k t) in
+      sym (ap (λ (y : PlaceAnswer). outcome (placeAnswer y) left) e) ∙ i .take-input .ensures
+      ∙ ap (λ (n : ℕ). takeInput (s .store .count) n (st (k t) .args .h) (input (k t)) (s .arenas)) (sym (found t .1))
 
-  ordered : checkVector (st begin .args .h) (input begin) ≡ given tt
-  ordered = let v = w .before .before .before in verdict-told (v .check-vector .ensures) (w .before .enum-told .given .1)
+take-input-requires : tie.Need-take-input-requires
+take-input-requires c κs =
+    let t = c .before .before in
+    let s = all (k t) in
+    let level = state-agrees s (agreed t) .level in
+    let within = next-within (s .arenas) (s .store .cells) (s .store .count) (agreed t) in
+    (omega (arith, within, found t .1), level)
 
--- nothing was refused
-module _ (e : tie.Else1) where
-  abbrev from : tie.After-check-cells
-  from = begin (e .before)
-
-  passed : checkInput (all from) (st from .args .h) (input from) ≡ given tt
-  passed =
-      let w = e .before in
-      let g = st from .args in
-      let t = told w in
-      let h : wordCount (g .h .width) ≤ length (g .av .now) - nextWord (g .self) = omega (arith, found t .2, w .word-count .ensures, e .if1 .left) in
-      simp (found t .0, lt-leb _ _ (few t), ordered w, le-ltb _ _ h)
-
-  accepted : Accepted (all from) (st from .args .h) (input from)
-  accepted = input-accepted (all from) (st from .args .h) (input from) (simp length-map at (st from .good .0 .1 .1 .0 .1 .0 .1)) passed
-
-check-cells-requires : tie.Need-check-cells-requires
-check-cells-requires c κs = search needs
-
-enum-known-r : tie.Need-enum-known-r
-enum-known-r c = search needs
-
-enum-known-at : tie.Need-enum-known-at
-enum-known-at c = search needs
-
-check-vector-requires : tie.Need-check-vector-requires
-check-vector-requires c κs = search needs
-
-enum-known-r-2 : tie.Need-enum-known-r-2
-enum-known-r-2 c = search needs
-
-enum-told : tie.Need-enum-told
-enum-told c = search needs
-
-sub-if1 : tie.Need-sub-if1
-sub-if1 c =
-    let t = c .before .before .before in
-    omega (arith, within t, found t .2)
-
-word-count-requires : tie.Need-word-count-requires
-word-count-requires c κs = search needs
-
-append-requires : tie.Need-append-requires
-append-requires c κs =
-    let e = c .before .before in
-    let a = accepted e in
-    let at = found (told (e .before)) .2 in
-    let level = state-agrees (all (from e)) (a .agreed) .level in (
-      (a .few, sym at),
-      (
-        plane-front _ _ (a .sound .planes .value-plane),
-        (
-          plane-front _ _ (a .sound .planes .unknown-plane),
-          (omega (arith, a .room, at), omega (arith, a .room, at, level)),
-        ),
-      ),
-    )
-
-same-length : tie.Need-same-length
-same-length c = search needs
-
-same-length-2 : tie.Need-same-length-2
-same-length-2 c = search needs
+with-cell-requires : tie.Need-with-cell-requires
+with-cell-requires c κs =
+    let i = c .before .before .before .before .before .before .before in
+    let b = k (t i) in
+    input-few (all b) (st b .args .h) (input b) (places b) (agreed (t i)) (c .before .at .given .0 .0) (left i) (told i (At (c .before .at .given .0 .0)) (c .before .at .given .1))
 
 returns : tie.Need-returns
 returns c =
-    let k = c .before .before .before in
-    let g = st k .args in
+    let b = c .before .before .before in
     let r = refusalNumber (c .before .r .given .0 .0) in
-    let e : checkInput (all k) (g .h) (input k) ≡ refused r =
-    both-refused (checkStore (all k)) (checkCount (storeHeaders (g .self))) (nextWord (g .self)) r (sym (k .check-cells .ensures) ∙ ap placeAnswer (c .before .r .given .1)) _ in
-    sym (ap (by k) e)
-
-same-length-3 : tie.Need-same-length-3
-same-length-3 c = search needs
-
-same-length-4 : tie.Need-same-length-4
-same-length-4 c = search needs
+    store-refused (all b) r (answer-refused (checkStore (all b)) (nextWord (st b .args .self)) r (sym (b .check-cells .ensures) ∙ ap placeAnswer (c .before .r .given .1))) .0 (st b .args .h) (input b)
 
 returns-2 : tie.Need-returns-2
 returns-2 c =
-    let v = c .before .before .before in
-    let t = v .before in
-    simp (found t .0, lt-leb _ _ (few t), verdict-told (v .check-vector .ensures) (c .before .r2 .given .1))
-
-same-length-5 : tie.Need-same-length-5
-same-length-5 c = search needs
-
-same-length-6 : tie.Need-same-length-6
-same-length-6 c = search needs
+    let i = c .before .before .before .before .before .before .before in
+    let b = k (t i) in
+    let r = c .before .r2 .given in
+    input-refused (all b) (st b .args .h) (input b) (places b) (agreed (t i)) (refusalNumber (r .0 .0)) (left i) (told i (Refused (r .0 .0)) (r .1))
 
 returns-3 : tie.Need-returns-3
 returns-3 c =
-    let w = c .before in
-    let t = told w in
-    let g = st (k t) .args in
-    let h : length (g .av .now) - nextWord (g .self) < wordCount (g .h .width) = omega (arith, found t .2, w .word-count .ensures, c .if1 .taken) in
-    simp (found t .0, lt-leb _ _ (few t), ordered w, lt-ltb _ _ h)
-
-same-length-7 : tie.Need-same-length-7
-same-length-7 c = search needs
-
-same-length-8 : tie.Need-same-length-8
-same-length-8 c = search needs
-
-returns-4 : tie.Need-returns-4
-returns-4 c =
-    let a = c .before .before .before .before in
-    let e = a .before .before .before in
-    let k = from e in
-    let h = st k .args .h in
-    let p = accepted e .sound .planes in
-    ap (λ (s : State). outcome (given (all k .store .count)) s)
-    (a .append .ensures
-    ∙ ap₂ (λ (v u : List ℕ). appended (vector h (lent v u)) (all k))
-    (plane-whole (h .width) (input k .value) (p .value-plane)) (plane-whole (h .width) (input k .unknown) (p .unknown-plane)))
-    ∙ sym (ap (by k) (passed e))
+    let a = c .before .before in
+    let i = a .before .before .before .before .before .before in
+    let b = k (t i) in
+    ap (λ (s : Store). outcome (given (all b .store .count)) (state s (left i))) (c .with-cell .ensures)
+    ∙ input-taken (all b) (st b .args .h) (input b) (places b) (agreed (t i)) (a .at .given .0 .0) (left i) (told i (At (a .at .given .0 .0)) (a .at .given .1))
 
 pub add-input-spec : {M : Type 1} → statement M
 add-input-spec =
     tie.close
     (tie.spec
-    check-cells-requires
-    enum-known-r
-    enum-known-at
-    check-vector-requires
-    enum-known-r-2
-    enum-told
-    sub-if1
-    word-count-requires
-    append-requires
-    same-length
-    same-length-2
+    (λ c κs. search needs)
+    (λ c. search needs)
+    (λ c. search needs)
+    take-input-requires
+    (λ c. search needs)
+    (λ c. search needs)
+    with-cell-requires
+    (λ c. search needs)
+    (λ c. search needs)
     returns
-    same-length-3
-    same-length-4
+    (λ c. search needs)
+    (λ c. search needs)
     returns-2
-    same-length-5
-    same-length-6
-    returns-3
-    same-length-7
-    same-length-8
-    returns-4)
+    (λ c. search needs)
+    (λ c. search needs)
+    returns-3)

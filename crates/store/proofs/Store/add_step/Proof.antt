@@ -1,207 +1,135 @@
--- `store::Store::add_step`: refused as checked, else worked out in the scratch planes, which then begin with the result (`worked-front`), and put
--- behind the last cell.
-use mathlib.Core.Path.{_≡_, sym, ap, _∙_, subst}
-use mathlib.Core.Bool.{true, false}
-use native.Mathlib.Omega.{arith}
+-- `store::Store::add_step`: 14, then what is taken on the store's four arrays.
+use mathlib.Core.Path.{_≡_, sym, ap, ap₂, _∙_, subst}
+use mathlib.Core.Bool.{true}
 use lib.ListN.{length, length-map}
 use Rattle.refusal.specs.Refusals.{refusalNumber}
+use Rattle.refusal.specs.Outcome.{outcome}
 use Rattle.refusal.specs.Outcome.Answer.{given}
-use Rattle.words.specs.Planes.{wordCount, Planes, lent, planesOf}
-use Rattle.value.specs.declared.Header.{Header}
-use Rattle.value.specs.Checks.{Vector}
-use Rattle.ops.specs.Ops.{armsRefused, opHeader, opVector}
-use Rattle.cells.specs.declared.Operands.{Operands}
-use Rattle.cells.specs.Cells.{cellVector, cellAgrees, putPlanes}
-use Rattle.cells.proofs.Spans.{fits-cell}
-use Rattle.layout.specs.Layout.{namedCells, Placed, placed, stepAnswer}
-use Rattle.layout.proofs.Answers.{answer-given, answer-refused}
-use Rattle.layout.proofs.Named.{header-named}
-use Rattle.store.specs.Store.{state, filled, appended}
-use Rattle.store.specs.Step.{Memory, memory, checkMemory, stepVector}
-use Rattle.store.proofs.Held.{state-agrees}
-use Rattle.store.proofs.Named.{vector-named}
-use Rattle.store.proofs.Steps.{Admitted, header-vector, step-admitted, named-fits, step-storable, Front, worked-front, step-added}
+use Rattle.words.specs.Planes.{Planes, lent}
+use Rattle.cells.specs.Cells.{placeAnswer}
+use Rattle.cells.proofs.Answers.{answer-given, answer-refused}
+use Rattle.cells.proofs.Agreed.{cells-accepted}
+use Rattle.plan.specs.declared.PlanAnswer.{PlanAnswer}
+use Rattle.plan.specs.declared.PlanAnswer.the-variants.{Planned, Refused}
+use Rattle.store.specs.declared.Store.{Store}
+use Rattle.store.specs.Store.{State, state, storeOf, nextWord, agrees, checkStore}
+use Rattle.store.specs.Step.{Memory, memory, addStep}
+use Rattle.store.specs.Taken.{takenAnswer, takenStore}
+use Rattle.store.proofs.Placed.{store-again}
+use Rattle.store.proofs.Taken.{store-refused, step-few}
 use borrow.Author.Needs.{needs}
 use Rattle.store.proofs.Store.add_step.Statement.{statement}
 use Rattle.store.proofs.Store.add_step.Tie as tie
 
-abbrev st : tie.After-place-step → tie.Start
+abbrev st : tie.After-check-cells → tie.Start
 st k = k .before .before .before .before .before .before .before .before
 
-abbrev all : tie.Start → Memory
-all s =
-    let g = s .args in
-    memory (state (g .self) (lent (g .av .now) (g .au .now))) (lent (g .sv .now) (g .su .now))
+abbrev scratch : tie.After-check-cells → Planes
+scratch k = lent (st k .args .sv .now) (st k .args .su .now)
 
-places : (s : tie.Start) → length (s .args .self .cells) ≡ 320
-places s = simp length-map at (s .good .0 .1 .1 .0 .1 .0 .1)
+abbrev all : tie.After-check-cells → State
+all k = state (st k .args .self) (lent (st k .args .av .now) (st k .args .au .now))
 
--- nothing was refused
+places : (k : tie.After-check-cells) → length (st k .args .self .cells) ≡ 320
+places k = simp length-map at (st k .good .0 .1 .1 .0 .1 .0 .1)
+
+-- not 14
 module _ (t : tie.After-known-told2) where
-  abbrev start : tie.Start
-  start = st (t .before .before .before)
+  abbrev k : tie.After-check-cells
+  k = t .before .before .before
+
+  found : (checkStore (all k) ≡ given tt) × (nextWord (st k .args .self) ≡ t .before .next .given .0 .0)
+  found =
+      answer-given (checkStore (all k)) (nextWord (st k .args .self)) (t .before .next .given .0 .0)
+      (sym (k .check-cells .ensures) ∙ ap placeAnswer (t .before .next .given .1))
+
+  agreed : agrees (all k) ≡ true
+  agreed = cells-accepted (all k .arenas) (all k .store .cells) (all k .store .count) (found .0)
+
+-- the four arrays are those of the store
+module _ (f : tie.After-fields-of) where
+  abbrev b : tie.After-check-cells
+  b = k (f .before)
+
+  same : st b .args .self ≡ storeOf (st b .args .self .count) (f .fields-of .result)
+  same =
+      let s = st b .args .self in
+      sym (store-again s (places b)) ∙ ap (storeOf (s .count)) (sym (f .fields-of .ensures))
+
+-- what was taken
+module _ (i : tie.After-take-step) where
+  abbrev f : tie.After-fields-of
+  f = i .before .before .before .before .before .before .before .before .before .before
 
   abbrev before : Memory
-  before = all start
+  before = memory (all (b f)) (scratch (b f))
 
-  abbrev result : Vector
-  result = stepVector (before .state) (start .args .step)
+  abbrev left : Store → Memory
+  left s =
+      let r = i .take-step .last .1 .1 .1 .1 .1 .1 .1 in
+      memory (state s (lent (r .0) (r .1 .0))) (lent (r .1 .1 .0) (r .1 .1 .1 .0))
 
-  abbrev there : Placed
-  there = let g = t .before .at .given .0 in record { start = g .0; operands = g .1 .0; header = g .1 .1 .0 }
+  told : (x : PlanAnswer) → i .take-step .result ≡ x
+      → outcome (takenAnswer (st (b f) .args .self .count) x) (left (takenStore x (st (b f) .args .self))) ≡ addStep before (st (b f) .args .step)
+  told x e =
+      let s = st (b f) .args .self in
+      ap₂ (λ (y : PlanAnswer) (z : Store). outcome (takenAnswer (s .count) y) (left (takenStore y z))) (sym e) (same f)
+      ∙ i .take-step .ensures
+      ∙ ap (λ (z : Store). addStep (memory (state z (all (b f) .arenas)) (scratch (b f))) (st (b f) .args .step)) (sym (same f))
 
-  found : (checkMemory before (start .args .step) ≡ given tt) × (placed (filled (start .args .self)) (start .args .step) ≡ there)
-  found =
-      answer-given (checkMemory before (start .args .step)) (placed (filled (start .args .self)) (start .args .step)) there
-      (sym (t .before .before .before .place-step .ensures) ∙ ap stepAnswer (t .before .at .given .1))
+take-step-requires : tie.Need-take-step-requires
+take-step-requires c κs =
+    let f = c .before .before .before .before .before .before .before .before .before in
+    let t = f .before in
+    record { agreed = subst (λ (s : Store). agrees (state s (all (k t) .arenas)) ≡ true) (same f) (agreed t); words = sym (found t .1) ∙ ap nextWord (same f) }
 
-  admitted : Admitted before (start .args .step)
-  admitted = step-admitted before (start .args .step) (places start) (found .0)
-
-  read : namedCells (filled (start .args .self)) (start .args .step) ≡ there .operands
-  read = ap (λ (p : Placed). p .operands) (found .1)
-
-  header : there .header ≡ result .header
-  header = sym (ap (λ (p : Placed). p .header) (found .1)) ∙ header-vector (before .state) (start .args .step)
-
-  header-read : there .header ≡ opHeader (start .args .step .op) (there .operands .a .header) (there .operands .b .header) (there .operands .c .header)
-  header-read =
-      sym (ap (λ (p : Placed). p .header) (found .1)) ∙ header-named (filled (start .args .self)) (start .args .step)
-      ∙ ap (λ (o : Operands). opHeader (start .args .step .op) (o .a .header) (o .b .header) (o .c .header)) read
-
-  size : wordCount (there .header .width) ≡ wordCount (result .header .width)
-  size = ap (λ (h : Header). wordCount (h .width)) header
-
-  -- the op on cells
-  abbrev onCells : Operands → Vector
-  onCells o =
-      let a = before .state .arenas in
-      opVector (start .args .step .op) (cellVector a (o .a)) (cellVector a (o .b)) (cellVector a (o .c)) (start .args .step .c)
-
-  is-result : onCells (there .operands) ≡ result
-  is-result = ap onCells (sym read) ∙ sym (vector-named (before .state) (start .args .step))
-
--- the result stands in the scratch planes
-module _ (w : tie.After-work-cells) where
-  abbrev t : tie.After-known-told2
-  t = w .before .before .before .before .before .before
-
-  abbrev scratch : Planes
-  scratch = lent (w .work-cells .last .1 .1 .1 .1 .1 .1 .0) (w .work-cells .last .1 .1 .1 .1 .1 .1 .1 .0)
-
-  front : Front (there t .header) (result t) scratch
-  front =
-      let m = before t in
-      let a = admitted t in
-      let s = start t in
-      subst (λ (h : Header). Front h (result t) scratch) (sym (header t))
-      (subst (Front (result t .header) (result t)) (sym (w .work-cells .ensures ∙ ap (λ (v : Vector). putPlanes 0 (planesOf (v .bits)) (m .scratch)) (is-result t)))
-      (worked-front (result t) (m .scratch) (step-storable m (s .args .step) (places s) a) (a .value-room) (a .unknown-room)))
-
-place-step-requires : tie.Need-place-step-requires
-place-step-requires c κs = search needs
-
-enum-known-r : tie.Need-enum-known-r
-enum-known-r c = search needs
-
-enum-known-at : tie.Need-enum-known-at
-enum-known-at c = search needs
-
-cast-work-cells : tie.Need-cast-work-cells
-cast-work-cells c = search needs
-
-work-cells-requires : tie.Need-work-cells-requires
-work-cells-requires c κs =
-    let t = c .before .before .before .before .before in
-    let s = start t in
-    let m = before t in
-    let a = admitted t in
-    let f = named-fits m (s .args .step) (places s) a in (
-      state-agrees (m .state) (a .agreed) .level,
-      (
-        subst (λ (o : Operands). cellAgrees (m .state .arenas) (o .a .start) (o .a) ≡ true) (read t) (fits-cell _ _ _ (f .a-fits)),
-        (
-          subst (λ (o : Operands). cellAgrees (m .state .arenas) (o .b .start) (o .b) ≡ true) (read t) (fits-cell _ _ _ (f .b-fits)),
-          (
-            subst (λ (o : Operands). cellAgrees (m .state .arenas) (o .c .start) (o .c) ≡ true) (read t) (fits-cell _ _ _ (f .c-fits)),
-            (
-              subst (λ (o : Operands). armsRefused (s .args .step .op) (o .b .header) (o .c .header) ≡ false) (read t) (a .arms),
-              (
-                header-read t,
-                (omega (arith, size t, a .value-room), omega (arith, size t, a .unknown-room)),
-              ),
-            ),
-          ),
-        ),
-      ),
-    )
-
-append-requires : tie.Need-append-requires
-append-requires c κs =
-    let w = c .before .before .before .before .before .before .before .before in
-    let m = before (t w) in
-    let a = admitted (t w) in
-    let f = front w in
-    let level = state-agrees (m .state) (a .agreed) .level in
-    let at = ap (λ (p : Placed). p .start) (found (t w) .1) in (
-      (a .few, sym at),
-      (
-        (f .value-long, f .value-plane),
-        (
-          (f .unknown-long, f .unknown-plane),
-          (omega (arith, a .room, at, size (t w)), omega (arith, a .room, at, size (t w), level)),
-        ),
-      ),
-    )
-
-same-length : tie.Need-same-length
-same-length c = search needs
-
-same-length-2 : tie.Need-same-length-2
-same-length-2 c = search needs
+with-cell-requires : tie.Need-with-cell-requires
+with-cell-requires c κs =
+    let i = c .before .before .before .before .before .before .before .before .before .before .before in
+    let a = c .before .p .given in
+    step-few (before i) _ (st (b (f i)) .args .step) _ (places (b (f i))) (told i (Planned (a .0 .0)) (a .1))
 
 returns : tie.Need-returns
 returns c =
-    let k = c .before .before .before in
-    let s = st k in
-    let r = c .before .r .given .0 .0 in
-    simp (answer-refused (checkMemory (all s) (s .args .step)) (placed (filled (s .args .self)) (s .args .step)) (refusalNumber r) (sym (k .place-step .ensures) ∙ ap stepAnswer (c .before .r .given .1)))
-
-same-length-3 : tie.Need-same-length-3
-same-length-3 c = search needs
-
-same-length-4 : tie.Need-same-length-4
-same-length-4 c = search needs
-
-same-length-5 : tie.Need-same-length-5
-same-length-5 c = search needs
-
-same-length-6 : tie.Need-same-length-6
-same-length-6 c = search needs
+    let b = c .before .before .before in
+    let r = refusalNumber (c .before .r .given .0 .0) in
+    store-refused (all b) r (answer-refused (checkStore (all b)) (nextWord (st b .args .self)) r (sym (b .check-cells .ensures) ∙ ap placeAnswer (c .before .r .given .1))) .1 (scratch b) (st b .args .step)
 
 returns-2 : tie.Need-returns-2
 returns-2 c =
-    let p = c .before .before .before .before in
-    let w = p .before .before .before .before .before .before .before .before .before in
-    let m = before (t w) in
-    step-added m (start (t w) .args .step) _ _ (found (t w) .0) (p .append .ensures ∙ ap (λ (v : Vector). appended v (m .state)) (front w .holds))
-    (w .work-cells .ensures ∙ ap (λ (v : Vector). putPlanes 0 (planesOf (v .bits)) (m .scratch)) (is-result (t w)))
+    let i = c .before .before .before .before .before .before .before .before .before .before .before in
+    let r = c .before .r2 .given in
+    told i (Refused (r .0 .0)) (r .1)
+
+returns-3 : tie.Need-returns-3
+returns-3 c =
+    let a = c .before .before in
+    let i = a .before .before .before .before .before .before .before .before .before .before in
+    ap (λ (s : Store). outcome (given (st (b (f i)) .args .self .count)) (left i s)) (c .with-cell .ensures)
+    ∙ told i (Planned (a .p .given .0 .0)) (a .p .given .1)
 
 pub add-step-spec : {M : Type 1} → statement M
 add-step-spec =
     tie.close
     (tie.spec
-    place-step-requires
-    enum-known-r
-    enum-known-at
-    cast-work-cells
-    work-cells-requires
-    append-requires
-    same-length
-    same-length-2
+    (λ c κs. search needs)
+    (λ c. search needs)
+    (λ c. search needs)
+    (λ c κs. search needs)
+    take-step-requires
+    (λ c. search needs)
+    (λ c. search needs)
+    with-cell-requires
+    (λ c. search needs)
+    (λ c. search needs)
     returns
-    same-length-3
-    same-length-4
-    same-length-5
-    same-length-6
-    returns-2)
+    (λ c. search needs)
+    (λ c. search needs)
+    (λ c. search needs)
+    (λ c. search needs)
+    returns-2
+    (λ c. search needs)
+    (λ c. search needs)
+    (λ c. search needs)
+    (λ c. search needs)
+    returns-3)

@@ -1,4 +1,0 @@
-pub mod Answers
-pub mod Agreed
-pub mod Walk
-pub mod Named
