@@ -15,6 +15,7 @@ use race::{Race, Side};
 use std::hint::black_box;
 use vowherunga::reference::draw::Rng;
 use vowherunga::reference::value::Value;
+use vowherunga::steps::{run, OUTPUT_BYTES};
 use vowherunga::{bitwise, compare, reduce, Header, LogicBit, Narrow, Operand, Refusal, MAX_WIDTH};
 
 const WIDTHS: [u32; 7] = [1, 32, 64, 65, 128, 4096, MAX_WIDTH];
@@ -197,6 +198,35 @@ fn against_copy(rng: &mut Rng) -> Race {
     ])
 }
 
+/// A step list of one input of 64 bits, all 0, and `steps` steps, in turn and, or, xor of the input with the cell before.
+fn list(steps: usize) -> String {
+    let mut list = format!("inputs=1\nsteps={steps}\nwidth=64\nkind=u\nbits={}\n", "0".repeat(64));
+    for step in 0..steps {
+        let op = ["and", "or", "xor"][step % 3];
+        list += &format!("op={op}\na=0\nb={step}\nc=0\n");
+    }
+    list
+}
+
+/// The runs of such lists, parsing and output included; one side for each number of steps.
+fn runs(steps: [usize; 3]) -> Race {
+    let sides = steps.map(|steps| {
+        let text = list(steps);
+        let mut planes = [(); 4].map(|()| vec![0; 2048]);
+        let mut out = vec![0; OUTPUT_BYTES].into_boxed_slice();
+        let side: Side = Box::new(move |calls| {
+            let [av, au, sv, su] = &mut planes;
+            let out: &mut [u8; OUTPUT_BYTES] = (&mut out[..]).try_into().expect("a buffer of that length");
+            for _ in 0..calls {
+                let ran = run(black_box(text.as_bytes()), av, au, sv, su, out);
+                assert_eq!(ran.ending, Ok(steps as u32));
+            }
+        });
+        side
+    });
+    Race::new(sides.into())
+}
+
 fn rows() -> Rows {
     let mut rows = Rows(Vec::new(), Rng::new(99));
     rows.of_two("and", Value::bitwise_and, bitwise::bitwise_and, Narrow::bitwise_and);
@@ -249,9 +279,12 @@ fn main() {
     let named: Vec<String> = std::env::args().skip(1).collect();
     rows.retain(|row| named.is_empty() || named.iter().any(|op| op == row.op));
     let mut copy = against_copy(&mut rng);
+    let steps = [0, 64, 256];
+    let mut runs = runs(steps);
     for _ in 0..ROUNDS {
         rows.iter_mut().for_each(|row| row.race.round());
         copy.round();
+        runs.round();
     }
     print_table(&rows, "ours");
     print_table(&rows, "by value");
@@ -261,4 +294,10 @@ fn main() {
          takes {:.0} ns: {:.2} times ({:.2} to {:.2}). A bare loop in Rust that does the same, without a check, takes {:.0} ns.",
         r.times[2], r.times[0], r.ratio, r.least, r.largest, r.times[1]
     );
+    let times = runs.result().times;
+    println!();
+    for (steps, ns) in steps.iter().zip(&times) {
+        println!("A run of {steps} steps of 64 bits takes {:.1} µs.", ns / 1000.0);
+    }
+    println!("A step of 256 takes {:.0} ns.", (times[2] - times[0]) / steps[2] as f64);
 }
