@@ -1,5 +1,5 @@
-// Cells: vectors whose words lie one behind the other in two lent arenas. What is read of them, their check, and how the words of one are put
-// behind the last.
+// Cells: vectors whose words lie one behind the other in two lent arenas. What is read of them, their check, and how the words of one
+// are put behind the last.
 use refusal::Refusal;
 use value::Header;
 ghost use mathlib.Core.Path.{_≡_};

@@ -33,7 +33,8 @@ pub struct Loaded {
 
 // Reads the list that stands in `text`, and puts its inputs into the first cells, up to the first that is refused.
 pub fn load_list(text: &[u8], av: &mut [u64], au: &mut [u64]) -> Loaded
-    ensures { λ r. ⌜ outcome (verdict (r .inputs .verdict)) (stateBy (storeOf (r .inputs .count) (r .inputs .fields)) (av .exit) (au .exit))
+    ensures { λ r. ⌜ outcome (verdict (r .inputs .verdict))
+        (stateBy (storeOf (r .inputs .count) (r .inputs .fields)) (av .exit) (au .exit))
         ≡ loadList (stateBy emptyStore (av .entry) (au .entry)) (whole (now (text .entry))) ⌝ }
     ensures { λ r. ⌜ after (verdict (r .inputs .verdict)) (whole (now (text .entry)))
         ≡ after (verdict (r .inputs .verdict)) (given (listIn (now (text .entry)) (r .list))) ⌝ }

@@ -1,5 +1,5 @@
-// A step planned: what the plain machine's checks say of it, and where its cell goes. It goes by headers, the next free word and the numbers of
-// words alone.
+// A step planned: what the plain machine's checks say of it, and where its cell goes. It goes by headers, the next free word and the
+// numbers of words alone.
 use ops::Op;
 use refusal::Refusal;
 use value::Header;

@@ -1,4 +1,5 @@
-// A step list, run: its text is loaded, its steps are planned and executed one after the other, and the lines that it writes stand in a buffer.
+// A step list, run: its text is loaded, its steps are planned and executed one after the other, and the lines that it writes stand in a
+// buffer.
 use cells::Fields;
 use load::load_list;
 use refusal::Refusal;
@@ -20,8 +21,8 @@ pub enum RunEnding {
     Refused(Refusal, u32),
 }
 
-// What a pass over steps leaves: the four arrays of the cells, how many are filled, how many bytes were written at the front of the buffer, and
-// how it ended.
+// What a pass over steps leaves: the four arrays of the cells, how many are filled, how many bytes were written at the front of the
+// buffer, and how it ended.
 pub struct Pass {
     pub fields: Fields,
     pub count: usize,

@@ -21,8 +21,8 @@ ghost use Rattle.steplist.specs.Answers.{stepsIn};
 ghost use Rattle.load.specs.Limits.{Fitted};
 ghost use Rattle.steps.specs.Run.{runSteps, finalOf, passBy};
 
-// Runs the steps of the list behind the cells of its inputs, up to the first that is refused, and writes their lines. In arenas of two lengths
-// the first step is refused by 14; in others the cells agree with the arenas from step to step, and none is checked again.
+// Runs the steps of the list behind the cells of its inputs, up to the first that is refused, and writes their lines. In arenas of two
+// lengths the first step is refused by 14; in others the cells agree with the arenas from step to step, and none is checked again.
 pub fn run_steps(
     list: StepList,
     inputs: Inputs,

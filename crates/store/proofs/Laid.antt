@@ -26,9 +26,9 @@ use Rattle.cells.specs.Places.{Whole, cellOf, noCell, noFields}
 use Rattle.cells.proofs.Answers.{not-given}
 use Rattle.cells.proofs.Places.{putFields, put-places}
 use Rattle.store.specs.declared.Store.{Store}
-use Rattle.store.specs.Store.{State, state, storeOf, filled, nextWord, agrees, cellsOf, appended, noScratch, checkInput, addInput, Holds}
+use Rattle.store.specs.Store.{State, state, storeOf, filled, nextWord, agrees, cellsOf, appended, noScratch, checkInput, addInput, Holds, withCell}
 use Rattle.store.specs.Step.{Memory, memory, addStep}
-use Rattle.store.specs.Taken.{Laid, withCell}
+use Rattle.store.specs.Taken.{Laid}
 use Rattle.store.proofs.Held.{empty-holds}
 use Rattle.store.proofs.Inputs.{input-holds}
 use Rattle.store.proofs.Steps.{step-check, step-holds}

@@ -29,9 +29,9 @@ use Rattle.plan.specs.declared.PlannedStep.{PlannedStep}
 use Rattle.plan.specs.Planned.{named, planned}
 use Rattle.plan.proofs.Named.{NamesFilled, names-within}
 use Rattle.execute.specs.Executed.{LentMemory, plannedResult, executed, Executable}
-use Rattle.store.specs.Store.{State, state, storeOf, storeHeaders, nextWord, agrees, checkStore, roomOf, noScratch, appended, addInput}
+use Rattle.store.specs.Store.{State, state, storeOf, storeHeaders, nextWord, agrees, checkStore, roomOf, noScratch, appended, addInput, withCell}
 use Rattle.store.specs.Step.{Memory, memory, checkMemory, stepResult, worked, stepped, addStep}
-use Rattle.store.specs.Taken.{withCell, takeInput}
+use Rattle.store.specs.Taken.{takeInput}
 use Rattle.store.proofs.Held.{state-agrees}
 use Rattle.store.proofs.Named.{filledAt, header-vector, vector-named}
 use Rattle.store.proofs.Steps.{Admitted, behind-admitted, step-admitted, named-fits, step-added}

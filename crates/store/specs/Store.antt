@@ -74,8 +74,12 @@ checkStore s = checkCells (s .arenas) (s .store .cells) (s .store .count)
 
 -- ---- a cell put behind the last
 
+-- a cell of the header h that begins at word k
+abbrev pub withCell : ℕ → Header → Store → Store
+withCell k h s = record { cells = set (s .cells) (s .count) (record { start = k; header = h }); count = s .count + 1 }
+
 abbrev pub putCell : Header → Store → Store
-putCell h s = record { cells = set (s .cells) (s .count) (record { start = nextWord s; header = h }); count = s .count + 1 }
+putCell h s = withCell (nextWord s) h s
 
 -- c is the next cell
 abbrev pub appended : machine.Cell → State → State

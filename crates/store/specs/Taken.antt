@@ -1,8 +1,7 @@
 -- Document 01, "Cell store" and "Numbers for what is not done": what an input and a step do where store and arenas agree, so that 14 is not asked.
 use mathlib.Core.Path.{_≡_}
 use mathlib.Core.Bool.{true}
-use Prim.Native.Nat.{ℕ, _+_}
-use lib.ListN.{set}
+use Prim.Native.Nat.{ℕ}
 use Rattle.refusal.specs.Refusals.{refusalNumber}
 use Rattle.refusal.specs.Outcome.{Answer, Outcome, outcome, after, orRefuse}
 use Rattle.refusal.specs.Outcome.Answer.{given, refused}
@@ -15,16 +14,12 @@ use Rattle.cells.specs.Cells.{putPlanes}
 use Rattle.plan.specs.declared.PlanAnswer.{PlanAnswer}
 use Rattle.plan.specs.declared.PlanAnswer.the-variants as plan-answer
 use Rattle.store.specs.declared.Store.{Store}
-use Rattle.store.specs.Store.{state, storeOf, nextWord, agrees, roomOf, noScratch}
+use Rattle.store.specs.Store.{state, storeOf, nextWord, agrees, withCell, roomOf, noScratch}
 
 -- the first n cells of f agree with the arenas a, and take their first k words
 pub record Laid (f : Fields) (n k : ℕ) (a : Planes) : Type 0 where
   pub agreed : agrees (state (storeOf n f) a) ≡ true
   pub words : k ≡ nextWord (storeOf n f)
-
--- a cell of the header h that begins at word k, behind the last
-abbrev pub withCell : ℕ → Header → Store → Store
-withCell k h s = record { cells = set (s .cells) (s .count) (record { start = k; header = h }); count = s .count + 1 }
 
 -- 12, then 1 to 4 for the input, then 13, where n cells take the first k words; else the input's words stand behind those
 abbrev pub takeInput : (n k : ℕ) → Header → Planes → Planes → Outcome ℕ Planes

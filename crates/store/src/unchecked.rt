@@ -22,9 +22,9 @@ ghost use Rattle.refusal.specs.Outcome.{outcome};
 ghost use Rattle.words.specs.Planes.{lentBy};
 ghost use Rattle.cells.specs.Cells.{placeAnswer};
 ghost use Rattle.cells.specs.Places.{fieldsBy, fieldsOf};
-ghost use Rattle.store.specs.Store.{storeOf};
+ghost use Rattle.store.specs.Store.{storeOf, withCell};
 ghost use Rattle.store.specs.Step.{memoryBy, addStep};
-ghost use Rattle.store.specs.Taken.{Laid, withCell, takeInput, takenAnswer, takenStore};
+ghost use Rattle.store.specs.Taken.{Laid, takeInput, takenAnswer, takenStore};
 
 // The store that four arrays say.
 pub fn store_of<'a>(

@@ -21,8 +21,8 @@ use Rattle.cells.specs.Places.{Whole, cellOf, placesOf}
 use Rattle.cells.proofs.Agreed.{next-within}
 use Rattle.cells.proofs.Places.{whole-none, putFields, put-whole}
 use Rattle.store.specs.declared.Store.{Store}
-use Rattle.store.specs.Store.{State, state, storeOf, nextWord, emptyStore, addInput}
-use Rattle.store.specs.Taken.{Laid, withCell, takeInput}
+use Rattle.store.specs.Store.{State, state, storeOf, nextWord, emptyStore, addInput, withCell}
+use Rattle.store.specs.Taken.{Laid, takeInput}
 use Rattle.store.proofs.Placed.{store-empty}
 use Rattle.store.proofs.Taken.{store-refused, input-refused, input-left, input-at, input-few, input-taken}
 use Rattle.store.proofs.Held.{state-uneven}

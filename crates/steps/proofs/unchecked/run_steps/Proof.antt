@@ -24,9 +24,9 @@ use Rattle.plan.specs.declared.PlannedStep.{PlannedStep}
 use Rattle.plan.specs.declared.PlanAnswer.{PlanAnswer}
 use Rattle.plan.specs.declared.PlanAnswer.the-variants.{Planned, Refused}
 use Rattle.store.specs.declared.Store.{Store}
-use Rattle.store.specs.Store.{state, storeOf}
+use Rattle.store.specs.Store.{state, storeOf, withCell}
 use Rattle.store.specs.Step.{Memory, memory, stepResult, addStep}
-use Rattle.store.specs.Taken.{Laid, withCell, takenAnswer, takenStore}
+use Rattle.store.specs.Taken.{Laid, takenAnswer, takenStore}
 use Rattle.store.proofs.Held.{state-uneven}
 use Rattle.store.proofs.Taken.{store-refused, step-few}
 use Rattle.store.proofs.Laid.{with-fields, step-laid}

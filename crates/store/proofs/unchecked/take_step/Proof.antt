@@ -19,9 +19,8 @@ use Rattle.cells.proofs.Places.{headers-places}
 use Rattle.plan.specs.declared.PlannedStep.{PlannedStep}
 use Rattle.plan.specs.Planned.{planned, planAnswer}
 use Rattle.execute.specs.Executed.{LentMemory}
-use Rattle.store.specs.Store.{state, storeOf, storeHeaders, roomOf}
+use Rattle.store.specs.Store.{state, storeOf, storeHeaders, roomOf, withCell}
 use Rattle.store.specs.Step.{memory}
-use Rattle.store.specs.Taken.{withCell}
 use Rattle.store.proofs.Held.{state-agrees}
 use Rattle.store.proofs.Taken.{step-refused, step-executable, step-taken}
 use borrow.Author.Needs.{needs}
