@@ -2,7 +2,6 @@
 --     not-given                        a refusal is no result
 --     after-given                      a result: the check accepted, and it is the answer behind it
 --     answer-given, answer-refused     a result: the check accepted; a refusal: the check's own
---     both-given, both-refused         the same for two checks
 --     count-few                        fewer cells than 320
 use mathlib.Core.Path.{_≡_, refl, sym, ap}
 use mathlib.Core.Bool.{Bool, true, false, cond}
@@ -27,17 +26,6 @@ answer-given (refused k) m n h = absurd (not-given k n h)
 pub answer-refused : {A : Type 0} (x : Answer Unit) (m : A) (n : ℕ) → after x (given m) ≡ refused n → x ≡ refused n
 answer-refused (given t) m n h = absurd (not-given n m (sym h))
 answer-refused (refused k) m n h = let e : k ≡ n = cc in ap refused e
-
--- two checks, one behind the other
-pub both-given : {A : Type 0} (x y : Answer Unit) (m n : A) → after x (after y (given m)) ≡ given n → (x ≡ given tt) × (y ≡ given tt) × (m ≡ n)
-both-given (given t) (given u) m n h = (refl, refl, cc)
-both-given (given t) (refused k) m n h = absurd (not-given k n h)
-both-given (refused k) y m n h = absurd (not-given k n h)
-
-pub both-refused : {A : Type 0} (x y : Answer Unit) (m : A) (n : ℕ) → after x (after y (given m)) ≡ refused n → (z : Answer Unit) → after x (after y z) ≡ refused n
-both-refused (given t) (given u) m n h z = absurd (not-given n m (sym h))
-both-refused (given t) (refused k) m n h z = let e : k ≡ n = cc in ap refused e
-both-refused (refused k) y m n h z = let e : k ≡ n = cc in ap refused e
 
 -- not 12
 pub count-few : (n : ℕ) → _≡_ {A = Answer Unit} (cond (leb 320 n) (refused 12) (given tt)) (given tt) → n < 320

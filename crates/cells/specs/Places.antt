@@ -1,5 +1,5 @@
 -- Document 01, "Cell store": the 320 places of a store as four lists, one for the start words and one for each part of a header, so that they can be
--- lent as slices.
+-- lent.
 use mathlib.Core.Path.{_≡_}
 use mathlib.Core.Bool.{Bool, false}
 use mathlib.Core.List.{List, map}

@@ -8,7 +8,7 @@ use Rattle.value.specs.declared.Header.{Header}
 use Rattle.cells.specs.declared.Fields.{Fields}
 use Rattle.store.specs.declared.Store.{Store}
 use Rattle.cells.specs.Places.{Whole, noCell}
-use Rattle.store.specs.Store.{storeOf}
+use Rattle.store.specs.Store.{storeOf, nextWord}
 use Rattle.store.specs.Taken.{Laid}
 use Rattle.steplist.specs.declared.Input.{Input}
 use Rattle.steplist.specs.declared.StepList.{StepList}
@@ -22,18 +22,18 @@ Thin h = h .width ≤ 4096
 abbrev pub AllThin : Store → Type 0
 AllThin s = (j : ℕ) → Thin (getD (s .cells) j noCell .header)
 
--- so the cells of f, and those that are filled agree with the arenas, if these are of one length
+-- so the cells of f, of which the first n take k words; they agree with the arenas, if these are of one length
 pub record Fitted (f : Fields) (n k : ℕ) (a : Planes) : Type 0 where
   pub whole : Whole f
   pub thin : AllThin (storeOf n f)
+  pub words : k ≡ nextWord (storeOf n f)
   pub laid : length (a .value) ≡ length (a .unknown) → Laid f n k a
 
 -- the input's bits stand in the text s
 abbrev pub InputReadable : List ℕ → Input → Type 0
 InputReadable s x = (x .header .width ≤ length s - x .place) × Thin (x .header)
 
--- at most 64 inputs, each of which can be read in the text s, and at most 256 steps
+-- at most 64 inputs, each of which can be read in the text s
 pub record Readable (s : List ℕ) (l : StepList) : Type 0 where
   pub few-inputs : l .«input_count» ≤ 64
-  pub few-steps : l .«step_count» ≤ 256
   pub inputs : (i : ℕ) → i < l .«input_count» → InputReadable s (getD (l .inputs) i noInput)

@@ -65,6 +65,10 @@ checkArms hs s = cond (armsRefused (s .op) (headerAt hs (s .b)) (headerAt hs (s 
 abbrev pub checkRoom : Room → ℕ → ℕ → Answer Unit
 checkRoom r n w = cond (ltb (r .arena - n) (wordCount w)) (refused 13) (given tt)
 
+-- 12, what the check of its vector says, then 13, for an input of width w behind n cells that take k words
+abbrev pub checkBehind : Room → (n k : ℕ) → Answer Unit → ℕ → Answer Unit
+checkBehind r n k checked w = after (checkCount n) (after checked (checkRoom r k w))
+
 -- 13, a scratch plane has fewer words than a cell of width w takes
 abbrev pub checkScratch : Room → ℕ → Answer Unit
 checkScratch r w = cond (ltb (r .scratch) (wordCount w)) (refused 13) (given tt)
@@ -109,6 +113,6 @@ runFrom r cs k (s ∷ ss) = onward (checkStep r (headersOf cs) s) cs k (runFrom 
 abbrev pub inputCells : List Vector → List Cell
 inputCells vs = map holding vs
 
--- from the cells cs on, which are those of the inputs
+-- from the cells cs on; in the run of a list these are the inputs' cells
 abbrev pub machineRun : Room → List Cell → List Step → Run
 machineRun r cs ss = runFrom r cs 0 ss

@@ -2,12 +2,12 @@
 use crate::Pass;
 use crate::RunEnding;
 use load::Inputs;
-use plan::PlanAnswer;
 use refusal::Refusal;
 use run_lines::unchecked::put_done;
 use run_lines::unchecked::put_refused;
 use run_lines::unchecked::put_step;
 use steplist::StepList;
+use store::StepAnswer;
 use store::unchecked::take_step;
 use words::word_count;
 ghost use mathlib.Core.Path.{_≡_};
@@ -49,7 +49,7 @@ pub fn run_steps(
         return Pass {
             fields: f,
             count: n,
-            length: put_refused(out, 0, 14, 1),
+            length: put_refused(out, 0, refusal::number(Refusal::BadStore) as u32, 1),
             ending: RunEnding::Refused(Refusal::BadStore, 1),
         };
     }
@@ -70,7 +70,7 @@ pub fn run_steps(
             sv,
             su,
         ) {
-            PlanAnswer::Refused(r) => {
+            StepAnswer::Refused(r) => {
                 let number = k as u32 + 1;
                 return Pass {
                     fields: f,
@@ -79,14 +79,14 @@ pub fn run_steps(
                     ending: RunEnding::Refused(r, number),
                 };
             }
-            PlanAnswer::Planned(p) => {
-                let h = p.header;
+            StepAnswer::Added(c) => {
+                let h = c.header;
                 at = put_step(out, at, n as u32, h, sv, su);
-                f.starts[n] = p.start;
+                f.starts[n] = c.start;
                 f.widths[n] = h.width;
                 f.signs[n] = h.is_signed;
                 f.fills[n] = h.is_fill;
-                next = p.start + word_count(h.width);
+                next = c.start + word_count(h.width);
                 n += 1;
             }
         }

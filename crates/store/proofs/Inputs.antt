@@ -1,6 +1,5 @@
 -- An input that is not refused.
 --     behind-accepted, input-accepted     what the checks behind 14 have found where store and arenas agree, and what all of them have
---     plane-whole, plane-front    a plane of its width's words is all of it, and the front of itself
 --     input-check     where a state holds cells, the check goes by headers alone
 --     input-holds     an accepted input is held behind the others
 use mathlib.Core.Path.{_≡_, refl, sym, ap, ap₂, subst}
@@ -10,8 +9,7 @@ use Prim.Native.Nat.{ℕ, _+_, _-_, _≤_, _<_}
 use native.Mathlib.Omega.{arith}
 use borrow.Author.Tests.{ltb-false}
 use lib.Dec.{ltb}
-use lib.ListN.{length, take}
-use lib.Seq.{take-all}
+use lib.ListN.{length}
 use Rattle.refusal.specs.Outcome.{Answer, outcome, after, orRefuse}
 use Rattle.refusal.specs.Outcome.Answer.{given, refused}
 use Rattle.words.specs.Planes.{wordCount, valuePlane, unknownPlane, Plane, Planes, planesOf}
@@ -20,7 +18,7 @@ use Rattle.value.specs.declared.Header.{Header}
 use Rattle.value.specs.Checks.{Vector, vector, checkVector}
 use Rattle.value.proofs.Checks.{Sound, vector-accepted}
 use Rattle.machine.specs.Machine as machine
-use Rattle.machine.specs.Machine.{holding, headersOf, wordsTaken, checkCount, checkRoom}
+use Rattle.machine.specs.Machine.{checkBehind, holding, headersOf, wordsTaken, checkCount, checkRoom}
 use Rattle.cells.specs.Cells.{checkCells}
 use Rattle.cells.proofs.Answers.{not-given, after-given, count-few}
 use Rattle.cells.proofs.Agreed.{headers-count, next-within, cells-accepted}
@@ -68,12 +66,6 @@ module _ (s : State) (h : Header) (p : Planes) (places : length (s .store .cells
       let x = after-given (checkStore s) (after count (after (checkVector h p) space)) tt e in
       behind-accepted (cells-accepted (s .arenas) (s .store .cells) (s .store .count) (x .0)) (x .1)
 
-pub plane-whole : (w : ℕ) (p : List ℕ) → Plane w p → take (wordCount w) p ≡ p
-plane-whole w p h = take-all (wordCount w) p (omega (arith, h .count))
-
-pub plane-front : (w : ℕ) (p : List ℕ) → Plane w p → (wordCount w ≤ length p) × Plane w (take (wordCount w) p)
-plane-front w p h = (omega (arith, h .count), subst (Plane w) (sym (plane-whole w p h)) h)
-
 -- ---- where a state holds the cells cs, and the input is a vector of as many bits as its header says
 
 module _ (s : State) (cs : List machine.Cell) (v : Vector) (holds : Holds s cs) (e : length (v .bits) ≡ v .header .width) where
@@ -84,13 +76,12 @@ module _ (s : State) (cs : List machine.Cell) (v : Vector) (holds : Holds s cs) 
       (subst (λ (w : ℕ). Plane w (unknownPlane (v .bits))) e (unknown-plane (v .bits)))
 
   pub input-check : (scratch : Planes) → checkInput s (v .header) (planesOf (v .bits))
-      ≡ after (checkCount (length (headersOf cs)))
-      (after (checkHeader (v .header)) (checkRoom (roomOf (s .arenas) scratch) (wordsTaken (headersOf cs)) (v .header .width)))
+      ≡ checkBehind (roomOf (s .arenas) scratch) (length (headersOf cs)) (wordsTaken (headersOf cs)) (checkHeader (v .header)) (v .header .width)
   unfolding checkCells
   input-check scratch =
       simp (holds .agreed)
       (ap₂ (λ (hs : List Header) (x : Answer Unit).
-      after (checkCount (length hs)) (after x (checkRoom (roomOf (s .arenas) scratch) (wordsTaken hs) (v .header .width))))
+      checkBehind (roomOf (s .arenas) scratch) (length hs) (wordsTaken hs) x (v .header .width))
       (holds-headers s cs holds) header-check)
 
   pub input-holds : (scratch : Planes) → checkInput s (v .header) (planesOf (v .bits)) ≡ given tt

@@ -1,5 +1,5 @@
 -- Cells that are laid in the arenas, as fields: none at first, and one more.
---     lay-none      an empty store
+--     no-words, lay-none      an empty store
 --     lay-more      a cell behind the last
 --     input-agrees      store and arenas agree after an input that is not refused
 --     step-laid         the cells after a step that is not refused
@@ -35,9 +35,12 @@ use Rattle.store.proofs.Steps.{step-check, step-holds}
 use Rattle.store.proofs.Taken.{step-left, step-few}
 use Rattle.store.proofs.Placed.{store-empty}
 
-pub lay-none : (a : Planes) → length (a .value) ≡ length (a .unknown) → Laid noFields 0 0 a
+pub no-words : 0 ≡ nextWord (storeOf 0 noFields)
 unfolding wordsTaken
-lay-none a e = record { agreed = subst (λ (s : Store). agrees (state s a) ≡ true) store-empty (empty-holds a e .agreed); words = refl }
+no-words = refl
+
+pub lay-none : (a : Planes) → length (a .value) ≡ length (a .unknown) → Laid noFields 0 0 a
+lay-none a e = record { agreed = subst (λ (s : Store). agrees (state s a) ≡ true) store-empty (empty-holds a e .agreed); words = no-words }
 
 -- the words of cells, and of one more
 words-more : (cs : List Cell) (c : Cell) → wordsTaken (cellHeaders (cs ++ (c ∷ []))) ≡ wordsTaken (cellHeaders cs) + wordCount (c .header .width)

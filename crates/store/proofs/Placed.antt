@@ -1,28 +1,21 @@
 -- A store by the four lists of its places.
 --     store-again     the lists of a store are that store
---     store-put       a cell put behind the last is a place written in each list
 --     store-empty     the lists of an empty store
 use mathlib.Core.Path.{_≡_, sym, ap, _∙_}
 use mathlib.Core.Bool.{false}
 use mathlib.Core.List.{List}
-use Prim.Native.Nat.{ℕ, _+_, _<_}
+use Prim.Native.Nat.{ℕ, _<_}
 use lib.ListN.{length, getD, replicate, length-replicate, getD-replicate}
 use Rattle.words.proofs.Planes.{eq-tabulate}
-use Rattle.value.specs.declared.Header.{Header}
 use Rattle.cells.specs.declared.Cell.{Cell}
 use Rattle.cells.specs.declared.Fields.{Fields}
-use Rattle.cells.specs.Places.{Whole, cellOf, fieldsOf, noCell, noFields}
-use Rattle.cells.proofs.Places.{places-again, putFields, put-places}
+use Rattle.cells.specs.Places.{cellOf, fieldsOf, noCell, noFields}
+use Rattle.cells.proofs.Places.{places-again}
 use Rattle.store.specs.declared.Store.{Store}
-use Rattle.store.specs.Store.{emptyStore, storeOf, nextWord, putCell}
+use Rattle.store.specs.Store.{emptyStore, storeOf}
 
 pub store-again : (s : Store) → length (s .cells) ≡ 320 → storeOf (s .count) (fieldsOf (s .cells)) ≡ s
 store-again s e = ap (λ (cs : List Cell). record { cells = cs; count = s .count }) (places-again (s .cells) e)
-
-pub store-put : (f : Fields) (n : ℕ) (h : Header) → Whole f → n < 320
-    → putCell h (storeOf n f) ≡ storeOf (n + 1) (putFields f n (record { start = nextWord (storeOf n f); header = h }))
-store-put f n h w l =
-    sym (ap (λ (cs : List Cell). record { cells = cs; count = n + 1 }) (put-places f n (record { start = nextWord (storeOf n f); header = h }) w l))
 
 pub store-empty : emptyStore ≡ storeOf 0 noFields
 unfolding emptyStore

@@ -7,7 +7,8 @@ use Rattle.refusal.specs.Outcome.{Answer, Outcome, outcome, after, orRefuse}
 use Rattle.refusal.specs.Outcome.Answer.{given}
 use Rattle.words.specs.Planes.{Planes, lentBy, planesOf}
 use Rattle.ops.specs.declared.Step.{Step}
-use Rattle.machine.specs.Machine.{Cell, checkStep, stepCell}
+use Rattle.machine.specs.Machine as machine
+use Rattle.machine.specs.Machine.{checkStep, stepCell}
 use Rattle.cells.specs.Cells.{putPlanes}
 use Rattle.store.specs.declared.Store.{Store}
 use Rattle.store.specs.Store.{State, stateBy, storeHeaders, cellsOf, checkStore, roomOf, appended}
@@ -30,15 +31,15 @@ checkMemory m step =
     after (checkStore (m .state)) (checkStep (roomOf (m .state .arenas) (m .scratch)) (storeHeaders (m .state .store)) step)
 
 -- what document 01 gives for the step and the cells it names
-abbrev pub stepResult : State → Step → Cell
+abbrev pub stepResult : State → Step → machine.Cell
 stepResult s step = stepCell (cellsOf s) step
 
 -- each scratch plane begins with the result and is unchanged beyond it
-abbrev pub worked : Cell → Planes → Planes
+abbrev pub worked : machine.Cell → Planes → Planes
 worked c scratch = putPlanes 0 (planesOf (c .vector .bits)) scratch
 
 -- the result is the next cell
-abbrev pub stepped : Cell → Memory → Memory
+abbrev pub stepped : machine.Cell → Memory → Memory
 stepped c m = memory (appended c (m .state)) (worked c (m .scratch))
 
 -- `add_step`: the answer is the new cell's number; a refusal leaves all

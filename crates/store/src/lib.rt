@@ -4,7 +4,6 @@ use cells::Cell;
 use cells::PlaceAnswer;
 use cells::unchecked::check_cells;
 use ops::Step;
-use plan::PlanAnswer;
 use refusal::Refusal;
 use unchecked::fields_of;
 use unchecked::take_input;
@@ -29,6 +28,12 @@ pub struct Store {
 // The number of the cell that was added, or the refusal.
 pub enum CellAnswer {
     Added(usize),
+    Refused(Refusal),
+}
+
+// The cell that a step has added, or the refusal.
+pub enum StepAnswer {
+    Added(Cell),
     Refused(Refusal),
 }
 
@@ -117,13 +122,13 @@ impl Store {
                     sv,
                     su,
                 ) {
-                    PlanAnswer::Refused(r) => Stored {
+                    StepAnswer::Refused(r) => Stored {
                         answer: CellAnswer::Refused(r),
                         store: self,
                     },
-                    PlanAnswer::Planned(p) => Stored {
+                    StepAnswer::Added(c) => Stored {
                         answer: CellAnswer::Added(self.count),
-                        store: with_cell(self, p.start, p.header),
+                        store: with_cell(self, c.start, c.header),
                     },
                 }
             }

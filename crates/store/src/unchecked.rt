@@ -1,4 +1,5 @@
 // A store as four arrays and back, one cell more, and an input and a step taken where store and arenas agree.
+use crate::StepAnswer;
 use crate::Store;
 use cells::Cell;
 use cells::Fields;
@@ -14,9 +15,10 @@ use plan::unchecked::plan_input;
 use plan::unchecked::plan_step;
 use value::Header;
 use value::check_vector;
+use words::unchecked::least;
 use words::word_count;
 ghost use mathlib.Core.Path.{_≡_};
-ghost use Prim.Native.Nat.{_≤_, _<_, min};
+ghost use Prim.Native.Nat.{_≤_, _<_};
 ghost use lib.ListN.{length};
 ghost use Rattle.refusal.specs.Outcome.{outcome};
 ghost use Rattle.words.specs.Planes.{lentBy};
@@ -108,13 +110,6 @@ pub fn take_input(
     }
 }
 
-// The smaller of two numbers of words.
-fn fewer(a: usize, b: usize) -> usize
-    ensures { λ r. ⌜ r ≡ min a b ⌝ }
-{
-    if a < b { a } else { b }
-}
-
 // Plans a step on the first `count` cells, which take the first `next` words of the arenas, and executes it if it is not refused.
 pub fn take_step<'a>(
     step: Step,
@@ -128,7 +123,7 @@ pub fn take_step<'a>(
     au: &mut [u64],
     sv: &mut [u64],
     su: &mut [u64],
-) -> PlanAnswer
+) -> StepAnswer
     requires { ⌜ Laid (fieldsBy starts widths signs fills) count next (lentBy av au) ⌝ }
     ensures { λ r. ⌜ outcome (takenAnswer count r)
         (memoryBy
@@ -142,13 +137,17 @@ pub fn take_step<'a>(
 {
     let room = Room {
         arena: av.len(),
-        scratch: fewer(sv.len(), su.len()),
+        scratch: least(sv.len(), su.len()),
     };
     match plan_step(step, count, next, widths, signs, fills, room) {
-        PlanAnswer::Refused(r) => PlanAnswer::Refused(r),
+        PlanAnswer::Refused(r) => StepAnswer::Refused(r),
         PlanAnswer::Planned(p) => {
             execute(p, starts, widths, signs, fills, av, au, sv, su);
-            PlanAnswer::Planned(p)
+            let h = p.header;
+            StepAnswer::Added(Cell {
+                start: p.start,
+                header: h,
+            })
         }
     }
 }

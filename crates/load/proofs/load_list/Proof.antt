@@ -14,7 +14,7 @@ use Rattle.cells.proofs.Places.{whole-none}
 use Rattle.store.specs.declared.Store.{Store}
 use Rattle.store.specs.Store.{state, storeOf, emptyStore}
 use Rattle.store.proofs.Placed.{store-empty}
-use Rattle.store.proofs.Laid.{lay-none}
+use Rattle.store.proofs.Laid.{no-words, lay-none}
 use Rattle.steplist.specs.Listing.{StepList, whole}
 use Rattle.steplist.specs.Answers.{listIn}
 use Rattle.steplist.proofs.Listed.{listed-counts, listed-places}
@@ -46,7 +46,7 @@ module _ (k : tie.After-read-list) where
 none : (a : Planes) (f : Fields) → f ≡ noFields → (state (storeOf 0 f) a ≡ state emptyStore a) × Fitted f 0 0 a
 none a f e = (
   ap (λ (s : Store). state s a) (ap (storeOf 0) e ∙ sym store-empty),
-  subst (λ (x : Fields). Fitted x 0 0 a) (sym e) (record { whole = whole-none; thin = subst AllThin store-empty thin-new; laid = lay-none a }),
+  subst (λ (x : Fields). Fitted x 0 0 a) (sym e) (record { whole = whole-none; thin = subst AllThin store-empty thin-new; words = no-words; laid = lay-none a }),
 )
 
 load-inputs-requires : tie.Need-load-inputs-requires
@@ -58,7 +58,7 @@ load-inputs-requires c κs =
     let e = k .read-list .ensures in
     let ok = a .enum-told .given .1 in
     let n = listed-counts t r e ok in
-    record { few-inputs = n .0; few-steps = n .1; inputs = λ i h. let p = listed-places t r e ok i h in (p .1, p .0) }
+    record { few-inputs = n .0; inputs = λ i h. let p = listed-places t r e ok i h in (p .1, p .0) }
 
 returns : tie.Need-returns
 returns c =

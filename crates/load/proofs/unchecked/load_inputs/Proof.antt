@@ -26,7 +26,7 @@ use Rattle.store.specs.Taken.{Laid, takeInput}
 use Rattle.store.proofs.Placed.{store-empty}
 use Rattle.store.proofs.Taken.{store-refused, input-refused, input-left, input-at, input-few, input-taken}
 use Rattle.store.proofs.Held.{state-uneven}
-use Rattle.store.proofs.Laid.{lay-none, with-fields, lay-more, input-agrees}
+use Rattle.store.proofs.Laid.{no-words, lay-none, with-fields, lay-more, input-agrees}
 use Rattle.steplist.specs.declared.StepList.{StepList}
 use Rattle.steplist.specs.Answers.{noInput, inputIn}
 use Rattle.load.specs.Limits.{Thin}
@@ -45,6 +45,7 @@ record Inv (t av₀ au₀ : List ℕ) (l : StepList) (av au : List ℕ) (f : Fie
   within : i ≤ l .«input_count»
   level : 0 < l .«input_count» → length av ≡ length au
   whole : Whole f
+  words : next ≡ nextWord (storeOf i f)
   fed : Fed (state emptyStore (lent av₀ au₀)) (l .«input_count») (input t l) (state (storeOf i f) (lent av au)) i
   laid : length av ≡ length au → Laid f i next (lent av au)
 
@@ -71,6 +72,9 @@ module _ (k : tie.After-no-fields Inv-loop μ-loop) where
   none =
       ap (λ (f : Fields). state (storeOf 0 f) lent-arenas) (k .no-fields .ensures)
       ∙ ap (λ (s : Store). state s lent-arenas) (sym store-empty)
+
+  none-words : 0 ≡ nextWord (storeOf 0 (k .no-fields .result))
+  none-words = subst (λ (f : Fields). 0 ≡ nextWord (storeOf 0 f)) (sym (k .no-fields .ensures)) no-words
 
   none-laid : length (lent-arenas .value) ≡ length (lent-arenas .unknown) → Laid (k .no-fields .result) 0 0 lent-arenas
   none-laid e = subst (λ (f : Fields). Laid f 0 0 lent-arenas) (sym (k .no-fields .ensures)) (lay-none lent-arenas e)
@@ -185,7 +189,7 @@ returns c =
     let s = state (storeOf 0 (k .no-fields .result)) (lent-arenas k) in
     let e = store-refused s 14 (state-uneven s (u .1)) .0 (x 0 .header) (planesOf (x 0 .bits)) in
     let r = feed-last n x (empty k) s 0 (none-fed k) (u .0) 14 s e (begin k .pre .inputs 0 (u .0) .1) in
-    (r .0, record { whole = subst Whole (sym (k .no-fields .ensures)) whole-none; thin = r .1; laid = none-laid k })
+    (r .0, record { whole = subst Whole (sym (k .no-fields .ensures)) whole-none; thin = r .1; words = none-words k; laid = none-laid k })
 
 loop-holds : tie.Need-loop-holds Inv-loop μ-loop
 loop-holds c =
@@ -197,6 +201,7 @@ loop-holds c =
       within = omega arith;
       level = even (g .t1 .«input_count») (length (g .av .now)) (length (g .au .now)) (c .if1 .left);
       whole = subst Whole (sym (k .no-fields .ensures)) whole-none;
+      words = none-words k;
       fed = none-fed k;
       laid = none-laid k;
     }
@@ -224,7 +229,7 @@ returns-2 c =
     let e = input-refused (s a) (v a .header) p (places a) (laid a .agreed) (number c) (left a) (not-taken c) in
     let q = input-left (s a) (v a .header) p (places a) (laid a .agreed) (number c) (left a) (not-taken c) in
     let r = feed-last (st a .args .t1 .«input_count») (vectors a) (from a) (s a) (i a) (l a .loop .inv .fed) (inside a) (number c) (state (storeOf (i a) (f a)) (left a)) e (thin a) in
-    (r .0, record { whole = l a .loop .inv .whole; thin = r .1; laid = λ z. subst (Laid (f a) (i a) (l a .loop .next)) (sym q) (laid a) })
+    (r .0, record { whole = l a .loop .inv .whole; thin = r .1; words = l a .loop .inv .words; laid = λ z. subst (Laid (f a) (i a) (l a .loop .next)) (sym q) (laid a) })
 
 loop-again : tie.Need-loop-again Inv-loop μ-loop
 loop-again c =
@@ -240,6 +245,7 @@ loop-again c =
       within = omega (arith, inside a);
       level = λ z. kept .0 ∙ level a ∙ sym (kept .1 .0);
       whole = put-whole (f a) (i a) cell (l a .loop .inv .whole);
+      words = w ∙ more t .words;
       fed =
           feed-more (st a .args .t1 .«input_count») (vectors a) (from a) (s a) (i a) (l a .loop .inv .fed) (inside a) (i a)
           (state (storeOf (i a + 1) (putFields (f a) (i a) cell)) (left a)) x (thin a);
@@ -284,7 +290,7 @@ returns-3 c =
     let x = input (a .text .now) (a .t1) in (
       feed-done n x (state emptyStore (lent (a .av .now) (a .au .now))) (state (storeOf (l .loop .i) (l .loop .f)) (lent (l .loop .av) (l .loop .au))) (l .loop .i)
           (l .loop .inv .fed) (c .loop-test .left),
-      record { whole = l .loop .inv .whole; thin = l .loop .inv .fed .thin; laid = l .loop .inv .laid },
+      record { whole = l .loop .inv .whole; thin = l .loop .inv .fed .thin; words = l .loop .inv .words; laid = l .loop .inv .laid },
     )
 
 pub load-inputs-spec : {M : Type 1} → statement M

@@ -20,9 +20,8 @@ use Rattle.cells.specs.declared.Fields.{Fields}
 use Rattle.cells.specs.Places.{Whole, cellOf, noCell}
 use Rattle.cells.proofs.Agreed.{next-within}
 use Rattle.cells.proofs.Places.{putFields, put-whole}
-use Rattle.plan.specs.declared.PlannedStep.{PlannedStep}
-use Rattle.plan.specs.declared.PlanAnswer.{PlanAnswer}
-use Rattle.plan.specs.declared.PlanAnswer.the-variants.{Planned, Refused}
+use Rattle.store.specs.declared.StepAnswer.{StepAnswer}
+use Rattle.store.specs.declared.StepAnswer.the-variants.{Added, Refused}
 use Rattle.store.specs.declared.Store.{Store}
 use Rattle.store.specs.Store.{state, storeOf, withCell}
 use Rattle.store.specs.Step.{Memory, memory, stepResult, addStep}
@@ -111,8 +110,8 @@ module _ (a : tie.After-take-step Inv-loop μ-loop) where
   abbrev this : Step
   this = step (list st) place
 
-  told : (x : PlanAnswer) → a .take-step .result ≡ x → outcome (takenAnswer n x) (left (takenStore x (storeOf n f))) ≡ addStep m this
-  told x e = sym (ap (λ (y : PlanAnswer). outcome (takenAnswer n y) (left (takenStore y (storeOf n f)))) e) ∙ a .take-step .ensures
+  told : (x : StepAnswer) → a .take-step .result ≡ x → outcome (takenAnswer n x) (left (takenStore x (storeOf n f))) ≡ addStep m this
+  told x e = sym (ap (λ (y : StepAnswer). outcome (takenAnswer n y) (left (takenStore y (storeOf n f)))) e) ∙ a .take-step .ensures
 
   inside : place < count st
   inside = a .before .before .before .before .before .before .before .before .before .before .before .loop-test .taken
@@ -133,14 +132,11 @@ module _ (r : tie.After-known-told2 Inv-loop μ-loop) where
   abbrev b : tie.After-take-step Inv-loop μ-loop
   b = r .before .before .before .before .before .before .before .before .before .before .before
 
-  abbrev p : PlannedStep
-  p = r .before .p .given .0 .0
-
-  abbrev cell : Cell
-  cell = record { start = p .start; header = p .header }
+  abbrev p : Cell
+  p = r .before .c .given .0 .0
 
   added : outcome (given (n b)) (left b (withCell (p .start) (p .header) (storeOf (n b) (f b)))) ≡ addStep (m b) (this b)
-  added = told b (Planned p) (r .before .p .given .1)
+  added = told b (Added p) (r .before .c .given .1)
 
   places : length (storeOf (n b) (f b) .cells) ≡ 320
   places = length-tabulate 320 (cellOf (f b))
@@ -151,9 +147,9 @@ module _ (r : tie.After-known-told2 Inv-loop μ-loop) where
   shown : Shown (m b) (left b (withCell (p .start) (p .header) (storeOf (n b) (f b)))) (this b) (n b) (p .header)
   shown =
       step-shown (m b) (left b (withCell (p .start) (p .header) (storeOf (n b) (f b)))) (this b) (n b) (p .header) places (l b .loop .inv .walked .thin) added
-      (ap (λ (c : Cell). c .header) (getD-set-same (storeOf (n b) (f b) .cells) (n b) cell noCell (omega (arith, places, below))))
+      (ap (λ (c : Cell). c .header) (getD-set-same (storeOf (n b) (f b) .cells) (n b) p noCell (omega (arith, places, below))))
 
-  more : Laid (putFields (f b) (n b) cell) (n b + 1) (p .start + wordCount (p .header .width)) (arenas b)
+  more : Laid (putFields (f b) (n b) p) (n b + 1) (p .start + wordCount (p .header .width)) (arenas b)
   more =
       step-laid (f b) (n b) (l b .loop .next) (p .start) (p .header) (lent (l b .loop .av) (l b .loop .au)) (arenas b) (m b .scratch) (scratch b) (this b)
       (l b .loop .inv .whole) (laid b) added
@@ -191,19 +187,20 @@ module _ (q : tie.After-put-step Inv-loop μ-loop) where
 
 put-refused-requires : tie.Need-put-refused-requires Inv-loop μ-loop
 put-refused-requires c κs =
-    let s = c .before .before .before .before .before .before .before .before in
-    (omega arith, omega arith, omega (arith, s .pre .0 .1))
+    let s = c .before .before .before .before .before .before .before .before .before in
+    (omega (arith, c .number .ensures), omega arith, omega (arith, s .pre .0 .1))
 
 returns : tie.Need-returns Inv-loop μ-loop
 returns c =
     let w = c .before .before in
-    let e = w .before .before in
+    let x = w .before in
+    let e = x .before .before in
     let s = e .before .before .before .before .before .before .before in
     let u = uneven (count s) (length (s .args .av .now)) (length (s .args .au .now)) (e .if1 .taken) in
     let m = entered s in
     sym (walk-last (count s) (step (list s)) m (s .args .out .now) m (s .args .out .now) 0 0 (first s) (u .0)
     (refused 14) m (w .put-refused .last .0) (w .put-refused .result) (store-refused (m .state) 14 (state-uneven (m .state) (u .1)) .1 (m .scratch) (step (list s) 0)) 14 refl
-    (w .put-refused .ensures))
+    (w .put-refused .ensures ∙ ap (λ j. put (buffer (s .args .out .now) 0) (refusedText j 1)) (x .number .ensures)))
 
 loop-holds : tie.Need-loop-holds Inv-loop μ-loop
 loop-holds c =
@@ -245,7 +242,7 @@ put-refused-requires-2 c κs =
     let a = at-refused r in
     let g = st a .pre .0 in
     let i = l a .loop .inv .walked in (
-      omega (arith, c .number .ensures, number-small (r .before .r .given .0 .0)),
+      omega (arith, c .number2 .ensures, number-small (r .before .r .given .0 .0)),
       omega (arith, few r),
       omega (arith, inside a, g .0, g .1, i .short, i .long),
     )
@@ -261,7 +258,7 @@ returns-2 c =
     let o = buffer (l a .loop .out) (l a .loop .at) in
     sym (walk-last (count s) (step (list s)) (entered s) (s .args .out .now) (m a) (l a .loop .out) (l a .loop .at) (place a) (l a .loop .inv .walked) (inside a)
     (refused (refusalNumber (r .0 .0))) (left a (storeOf (n a) (f a))) (w .put-refused2 .last .0) (w .put-refused2 .result) (told a (Refused (r .0 .0)) (r .1)) (refusalNumber (r .0 .0)) refl
-    (w .put-refused2 .ensures ∙ ap (λ x. put o (refusedText x (place a + 1))) (e .number .ensures)))
+    (w .put-refused2 .ensures ∙ ap (λ x. put o (refusedText x (place a + 1))) (e .number2 .ensures)))
 
 cast-put-step : tie.Need-cast-put-step Inv-loop μ-loop
 cast-put-step c = omega (arith, below (c .before .before))
@@ -326,7 +323,7 @@ loop-again c =
     let i = l a .loop .inv in
     let kept = a .take-step .kept .1 .1 .1 .1 .1 .1 .1 in
     let same : length (bytes q) ≡ length (l a .loop .out) = q .put-step .kept .0 in
-    let g = putFields (f a) (n a) (cell r) in
+    let g = putFields (f a) (n a) (p r) in
     let x : p r .start + w .word-count .result ≡ p r .start + wordCount (p r .header .width) = ap (λ (j : ℕ). p r .start + j) (w .word-count .ensures) in
     let called =
     ap (λ (z : Store). outcome (given (n a)) (left a z)) (sym (with-fields (f a) (n a) (p r .start) (p r .start) (p r .header) (i .whole) (below r))) ∙ added r in
@@ -338,7 +335,7 @@ loop-again c =
       out-long = same ∙ i .out-long;
       within = omega (arith, inside a);
       level = λ z. kept .0 ∙ i .level z ∙ sym (kept .1 .0);
-      whole = put-whole (f a) (n a) (cell r) (i .whole);
+      whole = put-whole (f a) (n a) (p r) (i .whole);
       laid = λ z. subst (λ (j : ℕ). Laid g (n a + 1) j (arenas a)) (sym x) (more r);
       walked =
           walk-more (count s) (step (list s)) (entered s) (s .args .out .now) (m a) (l a .loop .out) (l a .loop .at) (place a) (i .walked) (inside a)
@@ -369,6 +366,8 @@ run-steps-spec =
     (tie.spec
     Inv-loop
     μ-loop
+    (λ c κs. search needs)
+    (λ c. search needs)
     put-refused-requires
     (λ c. search needs)
     returns

@@ -9,9 +9,9 @@ use Rattle.words.specs.Planes.{Planes, lent}
 use Rattle.cells.specs.Cells.{placeAnswer}
 use Rattle.cells.proofs.Answers.{answer-given, answer-refused}
 use Rattle.cells.proofs.Agreed.{cells-accepted}
-use Rattle.plan.specs.declared.PlanAnswer.{PlanAnswer}
-use Rattle.plan.specs.declared.PlanAnswer.the-variants.{Planned, Refused}
 use Rattle.store.specs.declared.Store.{Store}
+use Rattle.store.specs.declared.StepAnswer.{StepAnswer}
+use Rattle.store.specs.declared.StepAnswer.the-variants.{Added, Refused}
 use Rattle.store.specs.Store.{State, state, storeOf, nextWord, agrees, checkStore}
 use Rattle.store.specs.Step.{Memory, memory, addStep}
 use Rattle.store.specs.Taken.{takenAnswer, takenStore}
@@ -69,11 +69,11 @@ module _ (i : tie.After-take-step) where
       let r = i .take-step .last .1 .1 .1 .1 .1 .1 .1 in
       memory (state s (lent (r .0) (r .1 .0))) (lent (r .1 .1 .0) (r .1 .1 .1 .0))
 
-  told : (x : PlanAnswer) → i .take-step .result ≡ x
+  told : (x : StepAnswer) → i .take-step .result ≡ x
       → outcome (takenAnswer (st (b f) .args .self .count) x) (left (takenStore x (st (b f) .args .self))) ≡ addStep before (st (b f) .args .step)
   told x e =
       let s = st (b f) .args .self in
-      ap₂ (λ (y : PlanAnswer) (z : Store). outcome (takenAnswer (s .count) y) (left (takenStore y z))) (sym e) (same f)
+      ap₂ (λ (y : StepAnswer) (z : Store). outcome (takenAnswer (s .count) y) (left (takenStore y z))) (sym e) (same f)
       ∙ i .take-step .ensures
       ∙ ap (λ (z : Store). addStep (memory (state z (all (b f) .arenas)) (scratch (b f))) (st (b f) .args .step)) (sym (same f))
 
@@ -86,8 +86,8 @@ take-step-requires c κs =
 with-cell-requires : tie.Need-with-cell-requires
 with-cell-requires c κs =
     let i = c .before .before .before .before .before .before .before .before .before .before .before in
-    let a = c .before .p .given in
-    step-few (before i) _ (st (b (f i)) .args .step) _ (places (b (f i))) (told i (Planned (a .0 .0)) (a .1))
+    let a = c .before .c .given in
+    step-few (before i) _ (st (b (f i)) .args .step) _ (places (b (f i))) (told i (Added (a .0 .0)) (a .1))
 
 returns : tie.Need-returns
 returns c =
@@ -106,7 +106,7 @@ returns-3 c =
     let a = c .before .before in
     let i = a .before .before .before .before .before .before .before .before .before .before in
     ap (λ (s : Store). outcome (given (st (b (f i)) .args .self .count)) (left i s)) (c .with-cell .ensures)
-    ∙ told i (Planned (a .p .given .0 .0)) (a .p .given .1)
+    ∙ told i (Added (a .c .given .0 .0)) (a .c .given .1)
 
 pub add-step-spec : {M : Type 1} → statement M
 add-step-spec =

@@ -9,24 +9,19 @@ use lib.Dec.{ltb}
 use lib.ListN.{length, take}
 use lib.Seq.{take-all}
 use Rattle.refusal.specs.Refusals.{refusalNumber}
-use Rattle.refusal.specs.Outcome.{Answer, Outcome, outcome, after, orRefuse, verdict}
+use Rattle.refusal.specs.Outcome.{Answer, Outcome, outcome, after, orRefuse}
 use Rattle.refusal.specs.Outcome.Answer.{given, refused}
 use Rattle.words.specs.Planes.{wordCount, Planes, lent, planesOf, vectorOf}
 use Rattle.bits.proofs.Splice.{planes-again}
 use Rattle.value.specs.Checks.{checkVector}
 use Rattle.value.proofs.Checks.{Sound, vector-accepted}
-use Rattle.machine.specs.Machine.{checkCount, checkRoom}
+use Rattle.machine.specs.Machine.{checkCount, checkBehind}
 use Rattle.cells.specs.Cells.{placeAnswer, putPlanes}
 use Rattle.cells.proofs.Answers.{not-given, answer-given, answer-refused}
 use Rattle.store.specs.Store.{roomOf, noScratch}
 use borrow.Author.Needs.{needs}
 use Rattle.store.proofs.unchecked.take_input.Statement.{statement}
 use Rattle.store.proofs.unchecked.take_input.Tie as tie
-
-nested : (a b c : Answer Unit) (m : ℕ) → after a (after b (after c (given m))) ≡ after (after a (after b c)) (given m)
-nested (given t) (given u) c m = refl
-nested (given t) (refused k) c m = refl
-nested (refused k) b c m = refl
 
 passed : (a b : Answer Unit) (d w : ℕ) → _≡_ {A = Answer Unit} (after a (after b (cond (ltb d w) (refused 13) (given tt)))) (given tt)
     → (b ≡ given tt) × (w ≤ d)
@@ -50,9 +45,7 @@ module _ (k : tie.After-plan-input) where
   arenas = lent (st .args .av .now) (st .args .au .now)
 
   abbrev check : Answer Unit
-  check =
-      after (checkCount (st .args .count))
-      (after (checkVector (st .args .h) input) (checkRoom (roomOf arenas noScratch) (st .args .next) (st .args .h .width)))
+  check = checkBehind (roomOf arenas noScratch) (st .args .count) (st .args .next) (checkVector (st .args .h) input) (st .args .h .width)
 
   -- what the check answers is what the call does
   abbrev by : Answer Unit → Outcome ℕ Planes
@@ -61,10 +54,8 @@ module _ (k : tie.After-plan-input) where
   told : placeAnswer (k .plan-input .result) ≡ after check (given (st .args .next))
   told =
       let g = st .args in
-      let room = checkRoom (roomOf arenas noScratch) (g .next) (g .h .width) in
       k .plan-input .ensures
-      ∙ nested (checkCount (g .count)) (verdict (k .before .check-vector .result)) room (g .next)
-      ∙ ap (λ (x : Answer Unit). after (after (checkCount (g .count)) (after x room)) (given (g .next))) (k .before .check-vector .ensures)
+      ∙ ap (λ (x : Answer Unit). after (checkBehind (roomOf arenas noScratch) (g .count) (g .next) x (g .h .width)) (given (g .next))) (k .before .check-vector .ensures)
 
 -- nothing was refused
 module _ (t : tie.After-known-told2) where

@@ -54,8 +54,8 @@ module _ (k : tie.After-plan-step) where
   abbrev s : tie.Start
   s = k .before .before .before .before .before .before
 
-  room : record { arena = length (m s .arenas .value); scratch = k .before .fewer .result } ≡ roomOf (m s .arenas) (m s .scratch)
-  room = λ i. record { arena = length (m s .arenas .value); scratch = k .before .fewer .ensures i }
+  room : record { arena = length (m s .arenas .value); scratch = k .before .least .result } ≡ roomOf (m s .arenas) (m s .scratch)
+  room = λ i. record { arena = length (m s .arenas .value); scratch = k .before .least .ensures i }
 
   told : planAnswer (k .plan-step .result) ≡ after (check s) (given (planned (hs s) (s .args .step)))
   told =
@@ -101,7 +101,7 @@ returns c =
 
 returns-2 : tie.Need-returns-2
 returns-2 c =
-    let x = c .before .before .before .before .before .before .before .before in
+    let x = c .before .before .before .before .before .before .before .before .before in
     let t = x .before .before .before .before .before in
     let st = from t in
     ap (λ (l : LentMemory). outcome (given (n st)) (memory (state (withCell (p t .start) (p t .header) (storeOf (n st) (table st))) (l .arenas)) (l .scratch))) (x .execute .ensures)
