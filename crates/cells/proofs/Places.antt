@@ -3,7 +3,7 @@
 --     headers-places   the headers of the first cells
 --     whole-none, put-whole     the lists have 320 places
 --     put-places       a place written in each list is one cell written
---     cell-read        the cell at a place below n is the one among the first n
+--     cell-among       the cell at a place below n is the one among the first n
 use mathlib.Core.Path.{_≡_, refl, sym, ap, _∙_}
 use mathlib.Core.Logic.{_≢_}
 use mathlib.Core.Bool.{Bool, true, false}
@@ -42,8 +42,8 @@ headers-places n f = go n 320 (cellOf f)
     go (suc n) zero g = refl
     go (suc n) (suc m) g = ap (λ (hs : List Header). g 0 .header ∷ hs) (go n m (λ i. g (suc i)))
 
-pub cell-read : (f : Fields) (n i : ℕ) (d : Cell) → i < n → n < 321 → getD (take n (placesOf f)) i d ≡ cellOf f i
-cell-read f n i d h l = getD-take n (placesOf f) i d h ∙ getD-tabulate 320 (cellOf f) i d (omega arith)
+pub cell-among : (f : Fields) (n i : ℕ) (d : Cell) → i < n → n < 321 → getD (take n (placesOf f)) i d ≡ cellOf f i
+cell-among f n i d h l = getD-take n (placesOf f) i d h ∙ getD-tabulate 320 (cellOf f) i d (omega arith)
 
 pub whole-none : Whole noFields
 whole-none = record {

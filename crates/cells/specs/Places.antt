@@ -55,6 +55,6 @@ fieldsOf cs =
 abbrev pub noCell : Cell
 noCell = record { start = 0; header = plain 0 }
 
--- and what stands in each list
+-- and its four lists
 abbrev pub noFields : Fields
 noFields = fields (replicate 320 0) (replicate 320 0) (replicate 320 false) (replicate 320 false)

@@ -9,11 +9,10 @@ use Rattle.ops.specs.declared.OpAnswer.{OpAnswer}
 use Rattle.ops.specs.declared.OpAnswer.the-variants as op-answer
 use Rattle.ops.specs.declared.Step.{Step}
 use Rattle.store.specs.declared.Store.{Store}
-use Rattle.store.specs.Store.{State, state, addInput}
+use Rattle.store.specs.Store.{State, state, addInput, storeOf}
 use Rattle.store.specs.Step.{Memory, memory, addStep}
 use Rattle.store_abi.specs.declared.CellResult.{CellResult}
 use Rattle.cells.specs.declared.Fields.{Fields}
-use Rattle.store.specs.Store.{storeOf}
 use Rattle.store_abi.specs.Settled.{Settled, settled, settledBy, crossed, noSuchOp}
 use Rattle.ffi_store.specs.Crossing.{crossedInput, addStepOf, crossedStep}
 

@@ -10,10 +10,9 @@ use value::Header;
 ghost use mathlib.Core.Path.{_≡_};
 ghost use Rattle.words.specs.Planes.{lentBy};
 ghost use Rattle.ops.specs.Names.{opOf};
-ghost use Rattle.store.specs.Store.{stateBy, addInput};
+ghost use Rattle.store.specs.Store.{stateBy, addInput, storeBy};
 ghost use Rattle.store.specs.Step.{memoryBy};
 ghost use Rattle.cells.specs.Places.{fieldsBy};
-ghost use Rattle.store.specs.Store.{storeOf};
 ghost use Rattle.store_abi.specs.Settled.{settled, crossed};
 ghost use Rattle.ffi_store.specs.Crossing.{crossedInput, addStepOf, crossedStep};
 
@@ -35,7 +34,7 @@ pub extern "C" fn vowherunga_add_input(
         (lentBy («arena_value» .exit) («arena_unknown» .exit))
         ≡ crossedInput (fieldsBy (starts .entry) (widths .entry) (signs .entry) (fills .entry))
         (addInput
-        (stateBy (storeOf count (fieldsBy (starts .entry) (widths .entry) (signs .entry) (fills .entry)))
+        (stateBy (storeBy count (starts .entry) (widths .entry) (signs .entry) (fills .entry))
         («arena_value» .entry) («arena_unknown» .entry))
         h (lentBy (value .entry) (unknown .entry))) ⌝ }
 {
@@ -66,7 +65,7 @@ pub extern "C" fn vowherunga_add_step(
         (lentBy («arena_value» .exit) («arena_unknown» .exit), lentBy («scratch_value» .exit) («scratch_unknown» .exit))
         ≡ crossedStep (fieldsBy (starts .entry) (widths .entry) (signs .entry) (fills .entry))
         (addStepOf (opOf op) a b c
-        (memoryBy (storeOf count (fieldsBy (starts .entry) (widths .entry) (signs .entry) (fills .entry)))
+        (memoryBy (storeBy count (starts .entry) (widths .entry) (signs .entry) (fills .entry))
         («arena_value» .entry) («arena_unknown» .entry) («scratch_value» .entry) («scratch_unknown» .entry))) ⌝ }
 {
     match op_of(op) {

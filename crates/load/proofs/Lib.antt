@@ -1,3 +1,3 @@
 pub mod Turns
-pub mod Thin
+pub mod Fitted
 pub mod Loops

@@ -1,7 +1,7 @@
 -- What is left of a list, once its first inputs are done: the invariant of the loop.
 --     even, uneven            what a test of the arenas' lengths tells
 --     next-one, none-left     what a tabulated list has from a place on
---     feed-start, feed-more, feed-last, feed-done
+--     feed-more, feed-last, feed-done     an input that is taken, one that is refused, and no input left
 use mathlib.Core.Path.{_≡_, refl, sym, ap, ap₂, _∙_, subst}
 use mathlib.Core.Bool.{Bool, true, false, not, _&&_}
 use mathlib.Core.List.{[], _∷_}
@@ -12,18 +12,14 @@ use borrow.Author.Tests.{ltb-true, eqb-true, eqb-false, lt-ltb}
 use lib.Dec.{ltb, eqb}
 use lib.ListN.{length, drop, drop-of-length-le}
 use lib.Seq.{drop-cons}
-use Rattle.refusal.specs.Outcome.{Answer, Outcome, outcome, orRefuse}
+use Rattle.refusal.specs.Outcome.{Outcome, outcome}
 use Rattle.refusal.specs.Outcome.Answer.{given, refused}
 use Rattle.words.specs.Vector.{tabulate}
-use Rattle.words.specs.Planes.{planesOf}
 use Rattle.words.proofs.Planes.{length-tabulate, getD-tabulate}
-use Rattle.value.specs.Checks.{Vector, vector}
-use Rattle.machine.specs.Machine.{holding}
-use Rattle.store.specs.Store.{State, appended, checkInput}
+use Rattle.value.specs.Checks.{Vector}
+use Rattle.store.specs.Store.{State}
 use Rattle.load.specs.Inputs.{addListed, addInputs}
-use Rattle.load.specs.Limits.{Thin, AllThin}
 use Rattle.load.proofs.Turns.{inputs-done, input-turn, input-last}
-use Rattle.load.proofs.Thin.{thin-put}
 
 -- ---- arenas of v and u words, before the first of n inputs or steps
 
@@ -54,41 +50,24 @@ module _ {A : Type 0} (n : ℕ) (f : ℕ → A) (i : ℕ) where
   pub none-left : n ≤ i → drop i (tabulate n f) ≡ []
   none-left h = drop-of-length-le (tabulate n f) {i = i} (omega (arith, length-tabulate n f))
 
-listed-thin : (s : State) (v : Vector) → AllThin (s .store) → Thin (v .header) → AllThin (addListed s v .left .store)
-listed-thin s v n t = go (checkInput s (v .header) (planesOf (v .bits)))
-  where
-    go : (x : Answer Unit) → AllThin (orRefuse x s (outcome (given (s .store .count)) (appended (holding (vector (v .header) (planesOf (v .bits)))) s)) .left .store)
-    go (given u) = thin-put (v .header) (s .store) n t
-    go (refused k) = n
-
 -- the state s with the inputs from i on has the outcome of the state `from` with all n of them
-pub record Fed (from : State) (n : ℕ) (f : ℕ → Vector) (s : State) (i : ℕ) : Type 0 where
-  pub thin : AllThin (s .store)
-  pub left : addInputs from (tabulate n f) ≡ addInputs s (drop i (tabulate n f))
+abbrev pub Fed : (from : State) (n : ℕ) (f : ℕ → Vector) (s : State) (i : ℕ) → Type 0
+Fed from n f s i = addInputs from (tabulate n f) ≡ addInputs s (drop i (tabulate n f))
 
-module _ (n : ℕ) (f : ℕ → Vector) where
-  pub feed-start : (from s : State) → s ≡ from → AllThin (from .store) → Fed from n f s 0
-  feed-start from s e t = subst (λ (z : State). Fed from n f z 0) (sym e) (record { thin = t; left = refl })
+module _ (n : ℕ) (f : ℕ → Vector) (from s : State) (i : ℕ) (h : Fed from n f s i) where
+  pub feed-done : n ≤ i → outcome (given tt) s ≡ addInputs from (tabulate n f)
+  feed-done l = sym (h ∙ ap (addInputs s) (none-left n f i l) ∙ inputs-done s)
 
-  module _ (from s : State) (i : ℕ) (h : Fed from n f s i) where
-    pub feed-done : n ≤ i → outcome (given tt) s ≡ addInputs from (tabulate n f)
-    feed-done l = sym (h .left ∙ ap (addInputs s) (none-left n f i l) ∙ inputs-done s)
+  module _ (l : i < n) where
+    onto : addInputs from (tabulate n f) ≡ addInputs s (f i ∷ drop (i + 1) (tabulate n f))
+    onto = h ∙ ap (addInputs s) (next-one n f i l)
 
-    module _ (l : i < n) where
-      onto : addInputs from (tabulate n f) ≡ addInputs s (f i ∷ drop (i + 1) (tabulate n f))
-      onto = h .left ∙ ap (addInputs s) (next-one n f i l)
+    pub feed-more : (k : ℕ) (t : State) → outcome (given k) t ≡ addListed s (f i) → Fed from n f t (i + 1)
+    feed-more k t e =
+        subst (λ (z : State). Fed from n f z (i + 1)) (sym (ap (λ (o : Outcome ℕ State). o .left) e))
+        (onto ∙ input-turn s (f i) (drop (i + 1) (tabulate n f)) k (sym (ap (λ (o : Outcome ℕ State). o .answer) e)))
 
-      pub feed-more : (k : ℕ) (t : State) → outcome (given k) t ≡ addListed s (f i) → Thin (f i .header) → Fed from n f t (i + 1)
-      feed-more k t e thin =
-          subst (λ (z : State). Fed from n f z (i + 1)) (sym (ap (λ (o : Outcome ℕ State). o .left) e)) (record {
-            thin = listed-thin s (f i) (h .thin) thin;
-            left = onto ∙ input-turn s (f i) (drop (i + 1) (tabulate n f)) k (sym (ap (λ (o : Outcome ℕ State). o .answer) e));
-          })
-
-      pub feed-last : (k : ℕ) (t : State) → outcome (refused k) t ≡ addListed s (f i) → Thin (f i .header)
-          → (outcome (refused k) t ≡ addInputs from (tabulate n f)) × AllThin (t .store)
-      feed-last k t e thin = (
+    pub feed-last : (k : ℕ) (t : State) → outcome (refused k) t ≡ addListed s (f i) → outcome (refused k) t ≡ addInputs from (tabulate n f)
+    feed-last k t e =
         ap (λ (z : State). outcome (refused k) z) (ap (λ (o : Outcome ℕ State). o .left) e)
-            ∙ sym (onto ∙ input-last s (f i) (drop (i + 1) (tabulate n f)) k (sym (ap (λ (o : Outcome ℕ State). o .answer) e))),
-        subst (λ (z : State). AllThin (z .store)) (sym (ap (λ (o : Outcome ℕ State). o .left) e)) (listed-thin s (f i) (h .thin) thin),
-      )
+        ∙ sym (onto ∙ input-last s (f i) (drop (i + 1) (tabulate n f)) k (sym (ap (λ (o : Outcome ℕ State). o .answer) e)))

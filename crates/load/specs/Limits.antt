@@ -22,7 +22,7 @@ Thin h = h .width ≤ 4096
 abbrev pub AllThin : Store → Type 0
 AllThin s = (j : ℕ) → Thin (getD (s .cells) j noCell .header)
 
--- so the cells of f, of which the first n take k words; they agree with the arenas, if these are of one length
+-- nor one of f, whose first n cells take k words; these agree with the arenas, if the arenas are of one length
 pub record Fitted (f : Fields) (n k : ℕ) (a : Planes) : Type 0 where
   pub whole : Whole f
   pub thin : AllThin (storeOf n f)
@@ -34,6 +34,6 @@ abbrev pub InputReadable : List ℕ → Input → Type 0
 InputReadable s x = (x .header .width ≤ length s - x .place) × Thin (x .header)
 
 -- at most 64 inputs, each of which can be read in the text s
-pub record Readable (s : List ℕ) (l : StepList) : Type 0 where
+pub record InputsReadable (s : List ℕ) (l : StepList) : Type 0 where
   pub few-inputs : l .«input_count» ≤ 64
   pub inputs : (i : ℕ) → i < l .«input_count» → InputReadable s (getD (l .inputs) i noInput)

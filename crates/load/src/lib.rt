@@ -31,8 +31,8 @@ pub struct Loaded {
     pub inputs: Inputs,
 }
 
-// Reads the list that stands in `text`, and puts its inputs into the first cells, up to the first that is refused. The list counts where
-// none is.
+// Reads the list that stands in `text`, and puts its inputs into the first cells, up to the first that is refused. Where the text or an
+// input is refused, the list that is given back is free.
 pub fn load_list(text: &[u8], av: &mut [u64], au: &mut [u64]) -> Loaded
     ensures { λ r. ⌜ outcome (verdict (r .inputs .verdict))
         (stateBy (storeOf (r .inputs .count) (r .inputs .fields)) (av .exit) (au .exit))

@@ -19,7 +19,7 @@ ghost use Rattle.store.specs.Store.{stateBy, storeOf, emptyStore};
 ghost use Rattle.store.specs.Taken.{takeInput};
 ghost use Rattle.steplist.specs.Answers.{inputIn, listIn};
 ghost use Rattle.load.specs.Inputs.{addInputs};
-ghost use Rattle.load.specs.Limits.{Fitted, InputReadable, Readable};
+ghost use Rattle.load.specs.Limits.{Fitted, InputReadable, InputsReadable};
 
 // Puts an input of the list behind `count` cells, its planes filled from its characters; they have at most 64 words.
 fn load_input(
@@ -45,7 +45,7 @@ fn load_input(
 
 // Puts the inputs of the list into the first cells, up to the first that is refused.
 pub fn load_inputs(list: StepList, text: &[u8], av: &mut [u64], au: &mut [u64]) -> Inputs
-    requires { ⌜ Readable (now text) list ⌝ }
+    requires { ⌜ InputsReadable (now text) list ⌝ }
     ensures { λ r. ⌜ outcome (verdict (r .verdict)) (stateBy (storeOf (r .count) (r .fields)) (av .exit) (au .exit))
         ≡ addInputs (stateBy emptyStore (av .entry) (au .entry)) (listIn (now (text .entry)) list .inputs) ⌝ }
     ensures { λ r. ⌜ Fitted (r .fields) (r .count) (r .next) (lentBy (av .exit) (au .exit)) ⌝ }

@@ -1,14 +1,14 @@
 -- Inputs that are accepted stand in the store as the machine's first cells, and whether they are goes by their headers.
 --     Accepts         each header is accepted behind those before it
 --     accepts         what the store accepts, headers accept
---     Fed             inputs are added to a store and stand behind the cells it held
+--     InputsHeld      inputs are added to a store and stand behind the cells it held
 --     inputs-plain    what headers accept, the store accepts and holds
 use mathlib.Core.Path.{_≡_, refl, sym, ap, _∙_, subst}
 use mathlib.Core.List.{List, [], _∷_, _++_, append-assoc, append-nil}
 use Prim.Native.Nat.{ℕ, suc}
 use native.Mathlib.Omega.{arith}
 use lib.ListN.{length}
-use Rattle.refusal.specs.Outcome.{Answer, Outcome, outcome, after, orRefuse}
+use Rattle.refusal.specs.Outcome.{Answer, Outcome, outcome, orRefuse}
 use Rattle.refusal.specs.Outcome.Answer.{given, refused}
 use Rattle.words.specs.Planes.{Planes, planesOf}
 use Rattle.value.specs.declared.Header.{Header}
@@ -58,13 +58,13 @@ module _ (scratch : Planes) (r : Room) where
     accepted f = input-holds s cs v h sound scratch (by-headers ∙ f)
 
   -- all inputs were accepted, and the state left holds the cells cs in the same room
-  pub record Fed (o : Outcome Unit State) (cs : List Cell) : Type 0 where
+  pub record InputsHeld (o : Outcome Unit State) (cs : List Cell) : Type 0 where
     pub accepted : o .answer ≡ given tt
     pub holds : Holds (o .left) cs
     pub room : roomOf (o .left .arenas) scratch ≡ r
 
   pub inputs-plain : (A : List Vector) (s : State) (cs : List Cell) → roomOf (s .arenas) scratch ≡ r → Holds s cs → AllSound (inputCells A)
-      → Accepts r (headersOf cs) (inputHeaders A) → Fed (addInputs s A) (cs ++ inputCells A)
+      → Accepts r (headersOf cs) (inputHeaders A) → InputsHeld (addInputs s A) (cs ++ inputCells A)
   unfolding addInputs
   inputs-plain [] s cs e h sound a = record { accepted = refl; holds = subst (Holds s) (sym (append-nil cs)) h; room = e }
   inputs-plain (v ∷ A) s cs e h sound a =
@@ -74,8 +74,8 @@ module _ (scratch : Planes) (r : Room) where
       inputs-plain A l (behind cs v) (w .room ∙ e) (w .holds) (λ j. sound (suc j))
       (subst (λ hs. Accepts r hs (inputHeaders A)) (sym (headers-more cs (holding v))) (a .1))
       in
-      subst (λ x. Fed (afterInput x l (addInputs l A)) (cs ++ inputCells (v ∷ A))) (sym (w .answered))
-      (subst (Fed (addInputs l A)) (append-assoc cs (holding v ∷ []) (inputCells A)) t)
+      subst (λ x. InputsHeld (afterInput x l (addInputs l A)) (cs ++ inputCells (v ∷ A))) (sym (w .answered))
+      (subst (InputsHeld (addInputs l A)) (append-assoc cs (holding v ∷ []) (inputCells A)) t)
 
   pub accepts : (A : List Vector) (s : State) (cs : List Cell) → roomOf (s .arenas) scratch ≡ r → Holds s cs → AllSound (inputCells A)
       → addInputs s A .answer ≡ given tt → Accepts r (headersOf cs) (inputHeaders A)

@@ -1,51 +1,32 @@
 -- What is left of a list, once its first steps are done: the invariant of the loop.
---     walk-start, walk-more, walk-last, walk-done
-use mathlib.Core.Path.{_≡_, refl, sym, ap, ap₂, _∙_, subst}
+--     walk-start, walk-more, walk-last, walk-done     no step done, one that adds a cell, one that is refused, and no step left
+use mathlib.Core.Path.{_≡_, refl, sym, ap, ap₂, _∙_}
 use mathlib.Core.List.{List, _∷_}
 use Prim.Native.Nat.{ℕ, suc, _+_, _*_, _≤_, _<_}
 use native.Mathlib.Numerals.{add-one}
 use native.Mathlib.Omega.{arith}
-use lib.ListN.{length, drop, length-set}
-use Rattle.refusal.specs.Outcome.{Answer, Outcome, outcome, orRefuse}
+use lib.ListN.{length, drop}
+use Rattle.refusal.specs.Outcome.{Answer, Outcome, outcome}
 use Rattle.refusal.specs.Outcome.Answer.{given, refused}
 use Rattle.words.specs.Vector.{tabulate}
 use Rattle.lines.specs.Buffer.{Buffer, buffer, put}
 use Rattle.run_lines.specs.Output.{cellText, doneText, refusedText}
 use Rattle.ops.specs.declared.Step.{Step}
 use Rattle.machine.specs.Machine.{AtEnd, RefusedAt}
-use Rattle.store.specs.Step.{Memory, checkMemory, stepResult, stepped, addStep}
+use Rattle.store.specs.Step.{Memory, stepResult, addStep}
 use Rattle.steps.specs.Run.{runSteps, final, finalOf}
-use Rattle.load.specs.Limits.{AllThin}
 use Rattle.steps.proofs.Turns.{steps-done, step-turn, step-last}
-use Rattle.load.proofs.Thin.{thin-put}
-use Rattle.steps.proofs.Thin.{step-thin}
 use Rattle.load.proofs.Loops.{next-one, none-left}
-
-stepped-thin : (m : Memory) (step : Step) → AllThin (m .state .store) → AllThin (addStep m step .left .state .store)
-stepped-thin m step n = go (checkMemory m step)
-  where
-    go : (x : Answer Unit) → AllThin (orRefuse x m (outcome (given (m .state .store .count)) (stepped (stepResult (m .state) step) m)) .left .state .store)
-    go (given u) = thin-put (stepResult (m .state) step .vector .header) (m .state .store) n (step-thin (m .state) step n)
-    go (refused k) = n
-
-stepped-places : (m : Memory) (step : Step) → length (m .state .store .cells) ≡ 320 → length (addStep m step .left .state .store .cells) ≡ 320
-stepped-places m step n = go (checkMemory m step)
-  where
-    go : (x : Answer Unit) → length (orRefuse x m (outcome (given (m .state .store .count)) (stepped (stepResult (m .state) step) m)) .left .state .store .cells) ≡ 320
-    go (given u) = simp length-set n
-    go (refused k) = n
 
 -- the memory m and the place `at` of the buffer, with the steps from k on, leave what the memory `from` leaves with all n of them
 pub record Walked (from : Memory) (out : List ℕ) (n : ℕ) (f : ℕ → Step) (m : Memory) (d : List ℕ) (at k : ℕ) : Type 0 where
-  pub places : length (m .state .store .cells) ≡ 320
-  pub thin : AllThin (m .state .store)
   pub short : at ≤ k * 4111
   pub long : length d ≡ length out
   pub left : finalOf (runSteps from 0 (tabulate n f)) (buffer out 0) ≡ finalOf (runSteps m k (drop k (tabulate n f))) (buffer d at)
 
 module _ (n : ℕ) (f : ℕ → Step) (from : Memory) (out : List ℕ) where
-  pub walk-start : length (from .state .store .cells) ≡ 320 → AllThin (from .state .store) → Walked from out n f from out 0 0
-  walk-start p t = record { places = p; thin = t; short = omega arith; long = refl; left = refl }
+  pub walk-start : Walked from out n f from out 0 0
+  walk-start = record { short = omega arith; long = refl; left = refl }
 
   module _ (m : Memory) (d : List ℕ) (at k : ℕ) (h : Walked from out n f m d at k) where
     pub walk-done : n ≤ k → finalOf (runSteps from 0 (tabulate n f)) (buffer out 0) ≡ final m (put (buffer d at) (doneText k)) (AtEnd k)
@@ -65,8 +46,6 @@ module _ (n : ℕ) (f : ℕ → Step) (from : Memory) (out : List ℕ) where
             let left : addStep m (f k) .left ≡ t = sym (ap (λ (o : Outcome ℕ Memory). o .left) called) in
             let answer : addStep m (f k) .answer ≡ given c = sym (ap (λ (o : Outcome ℕ Memory). o .answer) called) ∙ g in
             record {
-              places = subst (λ (z : Memory). length (z .state .store .cells) ≡ 320) left (stepped-places m (f k) (h .places));
-              thin = subst (λ (z : Memory). AllThin (z .state .store)) left (stepped-thin m (f k) (h .thin));
               short = omega (arith, short, h .short);
               long = same ∙ h .long;
               left =

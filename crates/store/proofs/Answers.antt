@@ -10,9 +10,8 @@ use Rattle.refusal.specs.Outcome.{Answer, after}
 use Rattle.refusal.specs.Outcome.Answer.{given, refused}
 use Rattle.words.specs.Planes.{Planes, Plane, clearAbove}
 use Rattle.words.proofs.Top.{clear-all}
-use Rattle.value.specs.Checks.{maxWidth, checkLengths, checkPlanes}
+use Rattle.value.specs.Checks.{maxWidth, checkLengths, checkPlanes, checkVector}
 use Rattle.value.specs.declared.Header.{Header}
-use Rattle.value.specs.Checks.{checkVector}
 use Rattle.value.proofs.Checks.{Sound}
 
 -- what 1 to 4 say of an input whose planes are those of as many bits as its header says: 1 and 4, by the header alone

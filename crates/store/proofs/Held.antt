@@ -23,8 +23,7 @@ use Rattle.refusal.specs.Outcome.Answer.{given, refused}
 use Rattle.bit.specs.declared.LogicBit.{LogicBit}
 use Rattle.words.specs.Planes.{wordCount, fromPlanes, valuePlane, unknownPlane, Plane, Planes, lent, planesOf}
 use Rattle.words.proofs.Planes.{bits-again, value-plane, unknown-plane}
-use Rattle.value.specs.Checks.{maxWidth}
-use Rattle.value.specs.Checks.{Vector, vector, checkVector}
+use Rattle.value.specs.Checks.{maxWidth, Vector, vector, checkVector}
 use Rattle.value.proofs.Checks.{Sound}
 use Rattle.machine.specs.Machine as machine
 use Rattle.machine.specs.Machine.{holding, headersOf}

@@ -1,17 +1,15 @@
 -- An input that is not refused.
---     behind-accepted, input-accepted     what the checks behind 14 have found where store and arenas agree, and what all of them have
+--     input-accepted  what the checks have found
 --     input-check     where a state holds cells, the check goes by headers alone
 --     input-holds     an accepted input is held behind the others
-use mathlib.Core.Path.{_≡_, refl, sym, ap, ap₂, subst}
-use mathlib.Core.Bool.{Bool, true, false, cond}
+use mathlib.Core.Path.{_≡_, sym, ap, ap₂, subst}
+use mathlib.Core.Bool.{true}
 use mathlib.Core.List.{List}
-use Prim.Native.Nat.{ℕ, _+_, _-_, _≤_, _<_}
+use Prim.Native.Nat.{ℕ, _+_, _≤_, _<_}
 use native.Mathlib.Omega.{arith}
-use borrow.Author.Tests.{ltb-false}
-use lib.Dec.{ltb}
 use lib.ListN.{length}
 use Rattle.refusal.specs.Outcome.{Answer, outcome, after, orRefuse}
-use Rattle.refusal.specs.Outcome.Answer.{given, refused}
+use Rattle.refusal.specs.Outcome.Answer.{given}
 use Rattle.words.specs.Planes.{wordCount, valuePlane, unknownPlane, Plane, Planes, planesOf}
 use Rattle.words.proofs.Planes.{value-plane, unknown-plane}
 use Rattle.value.specs.declared.Header.{Header}
@@ -20,18 +18,17 @@ use Rattle.value.proofs.Checks.{Sound, vector-accepted}
 use Rattle.machine.specs.Machine as machine
 use Rattle.machine.specs.Machine.{checkBehind, holding, headersOf, wordsTaken, checkCount, checkRoom}
 use Rattle.cells.specs.Cells.{checkCells}
-use Rattle.cells.proofs.Answers.{not-given, after-given, count-few}
+use Rattle.cells.proofs.Answers.{after-given, count-few, room-left}
 use Rattle.cells.proofs.Agreed.{headers-count, next-within, cells-accepted}
 use Rattle.store.specs.Store.{State, storeHeaders, nextWord, agrees, checkStore, roomOf, noScratch, appended, checkInput, addInput, Holds}
 use Rattle.store.specs.Step.{memory}
 use Rattle.store.proofs.Answers.{checkHeader, planes-header}
 use Rattle.store.proofs.Held.{state-agrees, held-count, holds-headers, Storable, storable-vector, append-holds, value-length, Added}
 
-pub record Accepted (s : State) (h : Header) (p : Planes) : Type 0 where
-  pub agreed : agrees s ≡ true
-  pub few : s .store .count < 320
-  pub sound : Sound h p
-  pub room : nextWord (s .store) + wordCount (h .width) ≤ length (s .arenas .value)
+record Accepted (s : State) (h : Header) (p : Planes) : Type 0 where
+  few : s .store .count < 320
+  sound : Sound h p
+  room : nextWord (s .store) + wordCount (h .width) ≤ length (s .arenas .value)
 
 module _ (s : State) (h : Header) (p : Planes) (places : length (s .store .cells) ≡ 320) where
   abbrev count : Answer Unit
@@ -40,31 +37,19 @@ module _ (s : State) (h : Header) (p : Planes) (places : length (s .store .cells
   abbrev space : Answer Unit
   space = checkRoom (roomOf (s .arenas) noScratch) (nextWord (s .store)) (h .width)
 
-  -- the words behind the last cell
-  abbrev left : ℕ
-  left = length (s .arenas .value) - nextWord (s .store)
-
-  pub behind-accepted : agrees s ≡ true → after count (after (checkVector h p) space) ≡ given tt → Accepted s h p
-  behind-accepted g e =
-      let x = after-given count (after (checkVector h p) space) tt e in
+  input-accepted : checkInput s h p ≡ given tt → Accepted s h p
+  input-accepted e =
+      let w = after-given (checkStore s) (after count (after (checkVector h p) space)) tt e in
+      let x = after-given count (after (checkVector h p) space) tt (w .1) in
       let y = after-given (checkVector h p) space tt (x .1) in
-      let counted = headers-count (s .store .cells) (s .store .count) places (state-agrees s g .few) in
+      let agreed : agrees s ≡ true = cells-accepted (s .arenas) (s .store .cells) (s .store .count) (w .0) in
+      let counted = headers-count (s .store .cells) (s .store .count) places (state-agrees s agreed .few) in
+      let within = next-within (s .arenas) (s .store .cells) (s .store .count) agreed in
       record {
-        agreed = g;
         few = omega (arith, counted, count-few (length (storeHeaders (s .store))) (x .0));
         sound = vector-accepted h p (y .0);
-        room = go (ltb left (wordCount (h .width))) refl (y .1);
+        room = omega (arith, within, room-left (roomOf (s .arenas) noScratch) (nextWord (s .store)) (h .width) (y .1));
       }
-    where
-      go : (b : Bool) → ltb left (wordCount (h .width)) ≡ b → _≡_ {A = Answer Unit} (cond b (refused 13) (given tt)) (given tt)
-          → nextWord (s .store) + wordCount (h .width) ≤ length (s .arenas .value)
-      go true b e = absurd (not-given 13 tt e)
-      go false b e = omega (arith, next-within (s .arenas) (s .store .cells) (s .store .count) g, ltb-false left (wordCount (h .width)) b)
-
-  pub input-accepted : checkInput s h p ≡ given tt → Accepted s h p
-  input-accepted e =
-      let x = after-given (checkStore s) (after count (after (checkVector h p) space)) tt e in
-      behind-accepted (cells-accepted (s .arenas) (s .store .cells) (s .store .count) (x .0)) (x .1)
 
 -- ---- where a state holds the cells cs, and the input is a vector of as many bits as its header says
 

@@ -1,8 +1,9 @@
 -- Cells that are laid in the arenas, as fields: none at first, and one more.
---     no-words, lay-none      an empty store
---     lay-more      a cell behind the last
---     input-agrees      store and arenas agree after an input that is not refused
---     step-laid         the cells after a step that is not refused
+--     no-words, lay-none     an empty store
+--     with-fields            a store with one cell more, as fields
+--     lay-more               a cell behind the last
+--     input-agrees           store and arenas agree after an input that is not refused
+--     step-laid              the cells after a step that is not refused
 use mathlib.Core.Path.{_≡_, refl, sym, ap, _∙_, subst}
 use mathlib.Core.Bool.{true}
 use mathlib.Core.List.{List, [], _∷_, _++_}
@@ -15,7 +16,6 @@ use Rattle.refusal.specs.Outcome.{Answer, Outcome, outcome, orRefuse}
 use Rattle.refusal.specs.Outcome.Answer.{given, refused}
 use Rattle.words.specs.Planes.{wordCount, Planes, planesOf}
 use Rattle.words.proofs.Planes.{length-tabulate}
-use Rattle.value.specs.declared.Header.{Header}
 use Rattle.value.specs.Checks.{Vector, vector}
 use Rattle.ops.specs.declared.Step.{Step}
 use Rattle.machine.specs.Machine.{holding, wordsTaken}
@@ -48,26 +48,23 @@ unfolding wordsTaken
 words-more [] c = omega arith
 words-more (b ∷ cs) c = let e = words-more cs c in omega arith
 
-module _ (f : Fields) (n k at : ℕ) (h : Header) (w : Whole f) (few : n < 320) where
-  abbrev cell : Cell
-  cell = record { start = at; header = h }
-
+module _ (f : Fields) (n : ℕ) (cell : Cell) (w : Whole f) (few : n < 320) where
   -- the store with the cell is that of the fields with the cell
-  pub with-fields : withCell at h (storeOf n f) ≡ storeOf (n + 1) (putFields f n cell)
+  pub with-fields : withCell cell (storeOf n f) ≡ storeOf (n + 1) (putFields f n cell)
   with-fields = sym (ap (λ (cs : List Cell). record { cells = cs; count = n + 1 }) (put-places f n cell w few))
 
-  next-more : nextWord (withCell at h (storeOf n f)) ≡ nextWord (storeOf n f) + wordCount (h .width)
+  next-more : nextWord (withCell cell (storeOf n f)) ≡ nextWord (storeOf n f) + wordCount (cell .header .width)
   next-more =
       let cs = storeOf n f .cells in
-      let e : filled (withCell at h (storeOf n f)) ≡ take n cs ++ (cell ∷ []) =
+      let e : filled (withCell cell (storeOf n f)) ≡ take n cs ++ (cell ∷ []) =
       ap (λ (i : ℕ). take i (set cs n cell)) (add-one n) ∙ take-suc-set cs n cell (omega (arith, length-tabulate 320 (cellOf f))) in
       ap (λ (l : List Cell). wordsTaken (cellHeaders l)) e ∙ words-more (take n cs) cell
 
-  pub lay-more : (a : Planes) → k ≡ nextWord (storeOf n f) → agrees (state (withCell at h (storeOf n f)) a) ≡ true
-      → Laid (putFields f n cell) (n + 1) (k + wordCount (h .width)) a
+  pub lay-more : (a : Planes) → cell .start ≡ nextWord (storeOf n f) → agrees (state (withCell cell (storeOf n f)) a) ≡ true
+      → Laid (putFields f n cell) (n + 1) (cell .start + wordCount (cell .header .width)) a
   lay-more a e g = record {
     agreed = subst (λ (s : Store). agrees (state s a) ≡ true) with-fields g;
-    words = ap (λ (i : ℕ). i + wordCount (h .width)) e ∙ sym next-more ∙ ap nextWord with-fields;
+    words = ap (λ (i : ℕ). i + wordCount (cell .header .width)) e ∙ sym next-more ∙ ap nextWord with-fields;
   }
 
 -- ---- after an input and after a step that are not refused
@@ -93,13 +90,13 @@ step-agrees m n step k places e agreed =
     subst (λ (z : Memory). agrees (z .state) ≡ true) (sym (ap (λ (o : Outcome ℕ Memory). o .left) e))
     (step-holds s (cellsOf s) (m .scratch) step h (sym (step-check s (cellsOf s) (m .scratch) step h) ∙ q) .holds .agreed)
 
-module _ (f : Fields) (n k at : ℕ) (h : Header) (a b p q : Planes) (step : Step) (w : Whole f) (laid : Laid f n k a)
-    (e : outcome (given n) (memory (state (withCell at h (storeOf n f)) b) q) ≡ addStep (memory (state (storeOf n f) a) p) step) where
+module _ (f : Fields) (n k : ℕ) (cell : Cell) (a b p q : Planes) (step : Step) (w : Whole f) (laid : Laid f n k a)
+    (e : outcome (given n) (memory (state (withCell cell (storeOf n f)) b) q) ≡ addStep (memory (state (storeOf n f) a) p) step) where
   abbrev before : Memory
   before = memory (state (storeOf n f) a) p
 
   abbrev left : Memory
-  left = memory (state (withCell at h (storeOf n f)) b) q
+  left = memory (state (withCell cell (storeOf n f)) b) q
 
   there : length (storeOf n f .cells) ≡ 320
   there = length-tabulate 320 (cellOf f)
@@ -107,12 +104,12 @@ module _ (f : Fields) (n k at : ℕ) (h : Header) (a b p q : Planes) (step : Ste
   taken-few : n < 320
   taken-few = step-few before left step n there e
 
-  begins : at ≡ nextWord (storeOf n f)
+  begins : cell .start ≡ nextWord (storeOf n f)
   begins =
       let l : n < length (storeOf n f .cells) = omega (arith, there, taken-few) in
-      sym (ap (λ (c : Cell). c .start) (getD-set-same (storeOf n f .cells) n (record { start = at; header = h }) noCell l))
+      sym (ap (λ (c : Cell). c .start) (getD-set-same (storeOf n f .cells) n cell noCell l))
       ∙ ap (λ (o : Memory). getD (o .state .store .cells) n noCell .start) (step-left before left step n e .2)
       ∙ ap (λ (c : Cell). c .start) (getD-set-same (storeOf n f .cells) n _ noCell l)
 
-  pub step-laid : Laid (putFields f n (record { start = at; header = h })) (n + 1) (at + wordCount (h .width)) b
-  step-laid = lay-more f n at at h w taken-few b begins (step-agrees before left step n there e (laid .agreed))
+  pub step-laid : Laid (putFields f n cell) (n + 1) (cell .start + wordCount (cell .header .width)) b
+  step-laid = lay-more f n cell w taken-few b begins (step-agrees before left step n there e (laid .agreed))

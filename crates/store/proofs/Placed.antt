@@ -8,7 +8,6 @@ use Prim.Native.Nat.{ℕ, _<_}
 use lib.ListN.{length, getD, replicate, length-replicate, getD-replicate}
 use Rattle.words.proofs.Planes.{eq-tabulate}
 use Rattle.cells.specs.declared.Cell.{Cell}
-use Rattle.cells.specs.declared.Fields.{Fields}
 use Rattle.cells.specs.Places.{cellOf, fieldsOf, noCell, noFields}
 use Rattle.cells.proofs.Places.{places-again}
 use Rattle.store.specs.declared.Store.{Store}

@@ -6,32 +6,29 @@
 --     step-added      what it leaves, put together
 --     step-check      where a state holds cells, the check goes by headers alone
 --     step-holds      its result is held behind the others
-use mathlib.Core.Path.{_≡_, refl, sym, ap, ap₂, _∙_, subst}
-use mathlib.Core.Bool.{Bool, true, false, cond}
+use mathlib.Core.Path.{_≡_, sym, ap, ap₂, _∙_, subst}
+use mathlib.Core.Bool.{Bool, true, false}
 use mathlib.Core.List.{List}
 use Prim.Native.Nat.{ℕ, _+_, _-_, _≤_, _<_, min}
 use native.Mathlib.Omega.{arith}
-use borrow.Author.Tests.{leb-false, ltb-false}
-use lib.Dec.{leb, ltb}
 use lib.ListN.{length, take}
-use Rattle.refusal.specs.Outcome.{Answer, outcome, after, orRefuse}
-use Rattle.refusal.specs.Outcome.Answer.{given, refused}
+use Rattle.refusal.specs.Outcome.{Answer, outcome, orRefuse}
+use Rattle.refusal.specs.Outcome.Answer.{given}
 use Rattle.words.specs.Planes.{wordCount, valuePlane, unknownPlane, Plane, Planes, lent, planesOf}
 use Rattle.words.proofs.Planes.{length-tabulate}
-use Rattle.value.proofs.Checks.{Checked}
+use Rattle.value.proofs.Checks.{Checked, Sound}
 use Rattle.value.specs.declared.Header.{Header}
 use Rattle.value.specs.Checks.{Vector, vector}
-use Rattle.value.proofs.Checks.{Sound}
 use Rattle.ops.specs.declared.Step.{Step}
 use Rattle.ops.specs.Ops.{armsRefused}
 use Rattle.ops.proofs.Results.{result-width}
 use Rattle.ops.proofs.Accepted.{result-sound}
 use Rattle.machine.specs.Machine as machine
-use Rattle.machine.specs.Machine.{headersOf, headerAt, names, stepHeader, wordsTaken, checkStep, stepCell}
+use Rattle.machine.specs.Machine.{headersOf, headerAt, wordsTaken, names, checkCount, checkNames, checkArms, checkRoom, checkScratch, stepHeader, checkStep, stepCell}
 use Rattle.cells.specs.declared.Cell.{Cell}
 use Rattle.cells.specs.Cells.{cellPlanes, cellVector, checkCells}
 use Rattle.cells.specs.Places.{noCell}
-use Rattle.cells.proofs.Answers.{not-given, after-given}
+use Rattle.cells.proofs.Answers.{after-given, test-left, test-taken, count-few, room-left, scratch-left}
 use Rattle.cells.proofs.Agreed.{headers-count, filled-fits, next-within, cells-accepted}
 use Rattle.cells.proofs.Spans.{Fits, fits-read}
 use Rattle.cells.proofs.Tail.{front-is}
@@ -66,12 +63,6 @@ module _ (m : Memory) (step : Step) (places : length (m .state .store .cells) �
   abbrev hs : List Header
   hs = storeHeaders (s .store)
 
-  abbrev words : ℕ
-  words = wordCount (stepHeader hs step .width)
-
-  abbrev scratch : ℕ
-  scratch = min (length (m .scratch .value)) (length (m .scratch .unknown))
-
   abbrev refusedArms : Bool
   refusedArms = armsRefused (step .op) (headerAt hs (step .b)) (headerAt hs (step .c))
 
@@ -82,34 +73,26 @@ module _ (m : Memory) (step : Step) (places : length (m .state .store .cells) �
 
   pub behind-admitted : agrees s ≡ true → checkStep (roomOf (s .arenas) (m .scratch)) hs step ≡ given tt → Admitted m step
   unfolding checkStep
-  behind-admitted ea e =
-      go (leb 320 (length hs)) refl (names (length hs) step) refl refusedArms refl
-      (ltb (length (s .arenas .value) - wordsTaken hs) words) refl (ltb scratch words) refl e
-    where
-      go : (b : Bool) → leb 320 (length hs) ≡ b → (n : Bool) → names (length hs) step ≡ n → (x : Bool) → refusedArms ≡ x
-          → (y : Bool) → ltb (length (s .arenas .value) - wordsTaken hs) words ≡ y → (z : Bool) → ltb scratch words ≡ z
-          → _≡_ {A = Answer Unit} (after (cond b (refused 12) (given tt)) (after (cond n (given tt) (refused 11))
-          (after (cond x (refused 7) (given tt)) (after (cond y (refused 13) (given tt)) (cond z (refused 13) (given tt)))))) (given tt)
-          → Admitted m step
-      go true _ n _ x _ y _ z _ e = absurd (not-given 12 tt e)
-      go false _ false _ x _ y _ z _ e = absurd (not-given 11 tt e)
-      go false _ true _ true _ y _ z _ e = absurd (not-given 7 tt e)
-      go false _ true _ false _ true _ z _ e = absurd (not-given 13 tt e)
-      go false _ true _ false _ false _ true _ e = absurd (not-given 13 tt e)
-      go false eb true en false ex false ey false ez e =
-          let counted : length hs ≡ s .store .count = headers-count (s .store .cells) (s .store .count) places (state-agrees s ea .few) in
-          let same : words ≡ wordCount (stepResult s step .vector .header .width) = ap (λ (h : Header). wordCount (h .width)) (header-vector s step) in
-          let y : words ≤ length (s .arenas .value) - wordsTaken hs = ltb-false (length (s .arenas .value) - wordsTaken hs) words ey in
-          let z : words ≤ scratch = ltb-false scratch words ez in
-          record {
-            agreed = ea;
-            few = omega (arith, counted, leb-false 320 (length hs) eb);
-            all-named = ap (λ (n : ℕ). names n step) (sym counted) ∙ en;
-            arms = sym arms-filled ∙ ex;
-            room = omega (arith, next-within (s .arenas) (s .store .cells) (s .store .count) ea, y, same);
-            value-room = omega (arith, z, same);
-            unknown-room = omega (arith, z, same);
-          }
+  behind-admitted agreed e =
+      let r = roomOf (s .arenas) (m .scratch) in
+      let w = stepHeader hs step .width in
+      let count = after-given (checkCount (length hs)) _ tt e in
+      let names-all = after-given (checkNames (length hs) step) _ tt (count .1) in
+      let arms = after-given (checkArms hs step) _ tt (names-all .1) in
+      let room = after-given (checkRoom r (wordsTaken hs) w) (checkScratch r w) tt (arms .1) in
+      let counted : length hs ≡ s .store .count = headers-count (s .store .cells) (s .store .count) places (state-agrees s agreed .few) in
+      let same : wordCount w ≡ wordCount (stepResult s step .vector .header .width) = ap (λ (h : Header). wordCount (h .width)) (header-vector s step) in
+      let behind = room-left r (wordsTaken hs) w (room .0) in
+      let worked = scratch-left r w (room .1) in
+      record {
+        agreed = agreed;
+        few = omega (arith, counted, count-few (length hs) (count .0));
+        all-named = ap (λ (n : ℕ). names n step) (sym counted) ∙ test-taken (names (length hs) step) 11 (names-all .0);
+        arms = sym arms-filled ∙ test-left refusedArms 7 (arms .0);
+        room = omega (arith, next-within (s .arenas) (s .store .cells) (s .store .count) agreed, behind, same);
+        value-room = omega (arith, worked, same);
+        unknown-room = omega (arith, worked, same);
+      }
 
   pub step-admitted : checkMemory m step ≡ given tt → Admitted m step
   step-admitted e =

@@ -1,6 +1,7 @@
 -- What is taken where store and arenas agree.
---     store-refused, store-accepted    14
---     input-refused, input-left, input-at, input-few, input-taken     an input
+--     told-refused, told-accepted     what the check of the cells tells of 14
+--     store-refused                   what 14 refuses
+--     input-refused, input-taken      an input
 --     step-left, step-few, step-refused, step-executable, step-taken     a step
 use mathlib.Core.Path.{_≡_, refl, sym, ap, ap₂, _∙_, subst}
 use mathlib.Core.Bool.{true}
@@ -21,15 +22,15 @@ use Rattle.cells.specs.declared.Cell.{Cell}
 use Rattle.cells.specs.declared.Fields.{Fields}
 use Rattle.cells.specs.Cells.{cellVector, cellAgrees, checkCells, putPlanes}
 use Rattle.cells.specs.Places.{cellOf, noCell}
-use Rattle.cells.proofs.Answers.{not-given, after-given, count-few}
+use Rattle.cells.proofs.Answers.{not-given, after-given, answer-given, answer-refused, count-few}
 use Rattle.cells.proofs.Spans.{Fits, fits-cell}
-use Rattle.cells.proofs.Agreed.{headers-count}
-use Rattle.cells.proofs.Places.{cell-read}
+use Rattle.cells.proofs.Agreed.{headers-count, cells-accepted}
+use Rattle.cells.proofs.Places.{cell-among}
 use Rattle.plan.specs.declared.PlannedStep.{PlannedStep}
-use Rattle.plan.specs.Planned.{named, planned}
+use Rattle.plan.specs.Planned.{planned}
 use Rattle.plan.proofs.Named.{NamesFilled, names-within}
 use Rattle.execute.specs.Executed.{LentMemory, plannedResult, executed, Executable}
-use Rattle.store.specs.Store.{State, state, storeOf, storeHeaders, nextWord, agrees, checkStore, roomOf, noScratch, appended, addInput, withCell}
+use Rattle.store.specs.Store.{State, state, storeOf, storeHeaders, nextWord, agrees, checkStore, roomOf, noScratch, withCell, putCell, appended, addInput}
 use Rattle.store.specs.Step.{Memory, memory, checkMemory, stepResult, worked, stepped, addStep}
 use Rattle.store.specs.Taken.{takeInput}
 use Rattle.store.proofs.Held.{state-agrees}
@@ -37,6 +38,15 @@ use Rattle.store.proofs.Named.{filledAt, header-vector, vector-named}
 use Rattle.store.proofs.Steps.{Admitted, behind-admitted, step-admitted, named-fits, step-added}
 
 -- ---- 14
+
+module _ (s : State) where
+  pub told-refused : (k : ℕ) → after (checkStore s) (given (nextWord (s .store))) ≡ refused k → checkStore s ≡ refused k
+  told-refused k e = answer-refused (checkStore s) (nextWord (s .store)) k e
+
+  pub told-accepted : (n : ℕ) → after (checkStore s) (given (nextWord (s .store))) ≡ given n → (agrees s ≡ true) × (nextWord (s .store) ≡ n)
+  told-accepted n e =
+      let x = answer-given (checkStore s) (nextWord (s .store)) n e in
+      (cells-accepted (s .arenas) (s .store .cells) (s .store .count) (x .0), x .1)
 
 pub store-refused : (s : State) (k : ℕ) → checkStore s ≡ refused k
     → ((h : Header) (p : Planes) → outcome (refused k) s ≡ addInput s h p)
@@ -52,7 +62,7 @@ store-refused s k e = (
       (outcome (given (s .store .count)) (stepped (stepResult s step) m))) e),
 )
 
-pub store-accepted : (s : State) → agrees s ≡ true → checkStore s ≡ given tt
+store-accepted : (s : State) → agrees s ≡ true → checkStore s ≡ given tt
 unfolding checkCells
 store-accepted s h = simp h
 
@@ -75,46 +85,41 @@ module _ (s : State) (h : Header) (p : Planes) (places : length (s .store .cells
       (ap (λ (x : Answer Unit). after x (behind (length (storeHeaders (s .store))))) (store-accepted s agreed)
       ∙ ap behind (headers-count (s .store .cells) (s .store .count) places (state-agrees s agreed .few)) ∙ e))
 
+  -- a refusal leaves all
   pub input-refused : (k : ℕ) (a : Planes) → outcome (refused k) a ≡ takeInput (s .store .count) next h p (s .arenas)
-      → outcome (refused k) (state (s .store) a) ≡ addInput s h p
+      → (a ≡ s .arenas) × (outcome (refused k) (state (s .store) a) ≡ addInput s h p)
   input-refused k a e = go (behind (s .store .count)) refl e
     where
       go : (x : Answer Unit) → behind (s .store .count) ≡ x → outcome (refused k) a ≡ orRefuse x (s .arenas) (outcome (given next) new)
-          → outcome (refused k) (state (s .store) a) ≡ addInput s h p
+          → (a ≡ s .arenas) × (outcome (refused k) (state (s .store) a) ≡ addInput s h p)
       go (given t) q e = absurd (not-given k next (ap (λ (o : Outcome ℕ Planes). o .answer) e))
-      go (refused j) q e = ap (λ (o : Outcome ℕ Planes). outcome (o .answer) (state (s .store) (o .left))) e ∙ called (refused j) q
+      go (refused j) q e = (
+        ap (λ (o : Outcome ℕ Planes). o .left) e,
+        ap (λ (o : Outcome ℕ Planes). outcome (o .answer) (state (s .store) (o .left))) e ∙ called (refused j) q,
+      )
 
-  pub input-left : (k : ℕ) (a : Planes) → outcome (refused k) a ≡ takeInput (s .store .count) next h p (s .arenas) → a ≡ s .arenas
-  input-left k a e = go (behind (s .store .count)) e
+  -- an input that begins at word k, and the arenas that it leaves
+  pub record InputTaken (k : ℕ) (a : Planes) : Type 0 where
+    pub few : s .store .count < 320
+    pub begins : k ≡ next
+    pub added : outcome (given (s .store .count)) (state (withCell (record { start = k; header = h }) (s .store)) a) ≡ addInput s h p
+
+  pub input-taken : (k : ℕ) (a : Planes) → outcome (given k) a ≡ takeInput (s .store .count) next h p (s .arenas) → InputTaken k a
+  input-taken k a e = go (behind (s .store .count)) refl e
     where
-      go : (x : Answer Unit) → outcome (refused k) a ≡ orRefuse x (s .arenas) (outcome (given next) new) → a ≡ s .arenas
-      go (given t) e = absurd (not-given k next (ap (λ (o : Outcome ℕ Planes). o .answer) e))
-      go (refused j) e = ap (λ (o : Outcome ℕ Planes). o .left) e
-
-  module _ (k : ℕ) (a : Planes) (e : outcome (given k) a ≡ takeInput (s .store .count) next h p (s .arenas)) where
-    pub input-at : k ≡ next
-    input-at = go (behind (s .store .count)) e
-      where
-        go : (x : Answer Unit) → outcome (given k) a ≡ orRefuse x (s .arenas) (outcome (given next) new) → k ≡ next
-        go (given t) e = let z : _≡_ {A = Answer ℕ} (given k) (given next) = ap (λ (o : Outcome ℕ Planes). o .answer) e in cc
-        go (refused j) e = absurd (not-given j k (sym (ap (λ (o : Outcome ℕ Planes). o .answer) e)))
-
-    pub input-few : s .store .count < 320
-    input-few = go (behind (s .store .count)) refl e
-      where
-        go : (x : Answer Unit) → behind (s .store .count) ≡ x → outcome (given k) a ≡ orRefuse x (s .arenas) (outcome (given next) new) → s .store .count < 320
-        go (given t) q e = count-few (s .store .count) (after-given (checkCount (s .store .count)) _ t q .0)
-        go (refused j) q e = absurd (not-given j k (sym (ap (λ (o : Outcome ℕ Planes). o .answer) e)))
-
-    pub input-taken : outcome (given (s .store .count)) (state (withCell k h (s .store)) a) ≡ addInput s h p
-    input-taken = go (behind (s .store .count)) refl e
-      where
-        go : (x : Answer Unit) → behind (s .store .count) ≡ x → outcome (given k) a ≡ orRefuse x (s .arenas) (outcome (given next) new)
-            → outcome (given (s .store .count)) (state (withCell k h (s .store)) a) ≡ addInput s h p
-        go (given t) q e =
-            ap₂ (λ (j : ℕ) (b : Planes). outcome (given (s .store .count)) (state (withCell j h (s .store)) b)) input-at (ap (λ (o : Outcome ℕ Planes). o .left) e)
-            ∙ called (given t) q
-        go (refused j) q e = absurd (not-given j k (sym (ap (λ (o : Outcome ℕ Planes). o .answer) e)))
+      go : (x : Answer Unit) → behind (s .store .count) ≡ x → outcome (given k) a ≡ orRefuse x (s .arenas) (outcome (given next) new) → InputTaken k a
+      go (refused j) q e = absurd (not-given j k (sym (ap (λ (o : Outcome ℕ Planes). o .answer) e)))
+      go (given t) q e =
+          let z : _≡_ {A = Answer ℕ} (given k) (given next) = ap (λ (o : Outcome ℕ Planes). o .answer) e in
+          let begins : k ≡ next = cc in
+          record {
+            few = count-few (s .store .count) (after-given (checkCount (s .store .count)) _ t q .0);
+            begins = begins;
+            added =
+                ap₂ (λ (j : ℕ) (b : Planes). outcome (given (s .store .count)) (state (withCell (record { start = j; header = h }) (s .store)) b)) begins
+                (ap (λ (o : Outcome ℕ Planes). o .left) e)
+                ∙ called (given t) q;
+          }
 
 -- ---- a step
 
@@ -133,6 +138,10 @@ step-left m n step k e = go (checkMemory m step) refl e
 
 pub step-few : (m n : Memory) (step : Step) (k : ℕ) → length (m .state .store .cells) ≡ 320 → outcome (given k) n ≡ addStep m step → m .state .store .count < 320
 step-few m n step k places e = step-admitted m step places (step-left m n step k e .0) .few
+
+-- the cell that a planned step adds
+abbrev plannedCell : PlannedStep → Cell
+plannedCell p = record { start = p .start; header = p .header }
 
 -- on the first n cells of f
 
@@ -171,7 +180,7 @@ module _ (n : ℕ) (f : Fields) (m : LentMemory) (step : Step) (agreed : agrees 
     there = names-within n step (h .all-named)
 
     is : (i : ℕ) → i < n → filledAt (s .store) i ≡ cellOf f i
-    is i l = cell-read f n i noCell l (omega (arith, few))
+    is i l = cell-among f n i noCell l (omega (arith, few))
 
     abbrev p : PlannedStep
     p = planned hs step
@@ -214,16 +223,14 @@ module _ (n : ℕ) (f : Fields) (m : LentMemory) (step : Step) (agreed : agrees 
     pub step-executable : (q : PlannedStep) → planned hs step ≡ q → Executable q f m
     step-executable q r = subst (λ (x : PlannedStep). Executable x f m) r ready
 
-    left : state (withCell (p .start) (p .header) (s .store)) (executed p f m .arenas) ≡ appended (stepResult s step) s
-    left =
-        ap₂ (λ (x : Header) (v : Vector). state (withCell (nextWord (s .store)) x (s .store)) (putPlanes (nextWord (s .store)) (planesOf (v .bits)) (m .arenas)))
-        header (sym result)
+    left : state (withCell (plannedCell p) (s .store)) (executed p f m .arenas) ≡ appended (stepResult s step) s
+    left = ap₂ (λ (x : Header) (v : Vector). state (putCell x (s .store)) (putPlanes (nextWord (s .store)) (planesOf (v .bits)) (m .arenas))) header (sym result)
 
     shown : executed p f m .scratch ≡ worked (stepResult s step) (m .scratch)
     shown = ap (λ (v : Vector). putPlanes 0 (planesOf (v .bits)) (m .scratch)) (sym result)
 
     pub step-taken : (q : PlannedStep) → planned hs step ≡ q
-        → outcome (given n) (memory (state (withCell (q .start) (q .header) (s .store)) (executed q f m .arenas)) (executed q f m .scratch)) ≡ addStep before step
+        → outcome (given n) (memory (state (withCell (plannedCell q) (s .store)) (executed q f m .arenas)) (executed q f m .scratch)) ≡ addStep before step
     step-taken q r =
-        subst (λ (x : PlannedStep). outcome (given n) (memory (state (withCell (x .start) (x .header) (s .store)) (executed x f m .arenas)) (executed x f m .scratch)) ≡ addStep before step) r
+        subst (λ (x : PlannedStep). outcome (given n) (memory (state (withCell (plannedCell x) (s .store)) (executed x f m .arenas)) (executed x f m .scratch)) ≡ addStep before step) r
         (step-added before step _ _ (whole-check ∙ e) left shown)

@@ -18,7 +18,7 @@ use Rattle.machine.specs.Machine.{holding, checkBehind}
 use Rattle.cells.specs.declared.Cell.{Cell}
 use Rattle.cells.specs.declared.Fields.{Fields}
 use Rattle.cells.specs.Cells.{cellVector, cellHeaders, wordBehind, agree, checkCells, putPlanes}
-use Rattle.cells.specs.Places.{placesOf, noCell}
+use Rattle.cells.specs.Places.{fieldsBy, placesOf, noCell}
 use Rattle.store.specs.declared.Store.{Store}
 use Rattle.store.specs.declared.CellAnswer.{CellAnswer}
 use Rattle.store.specs.declared.CellAnswer.the-variants as cell-answer
@@ -49,6 +49,10 @@ emptyStore = record { cells = replicate 320 noCell; count = 0 }
 abbrev pub storeOf : ℕ → Fields → Store
 storeOf n f = record { cells = placesOf f; count = n }
 
+-- by the references
+abbrev pub storeBy : ℕ → (starts widths : RefT (List ℕ)) → (signs fills : RefT (List Bool)) → Store
+storeBy n a b c d = storeOf n (fieldsBy a b c d)
+
 -- the filled cells, in order
 abbrev pub filled : Store → List Cell
 filled s = take (s .count) (s .cells)
@@ -74,12 +78,12 @@ checkStore s = checkCells (s .arenas) (s .store .cells) (s .store .count)
 
 -- ---- a cell put behind the last
 
--- a cell of the header h that begins at word k
-abbrev pub withCell : ℕ → Header → Store → Store
-withCell k h s = record { cells = set (s .cells) (s .count) (record { start = k; header = h }); count = s .count + 1 }
+abbrev pub withCell : Cell → Store → Store
+withCell c s = record { cells = set (s .cells) (s .count) c; count = s .count + 1 }
 
+-- a cell of the header h, which begins behind the words of the last
 abbrev pub putCell : Header → Store → Store
-putCell h s = withCell (nextWord s) h s
+putCell h s = withCell (record { start = nextWord s; header = h }) s
 
 -- c is the next cell
 abbrev pub appended : machine.Cell → State → State

@@ -33,5 +33,5 @@ takenAnswer n (step-answer.Added c) = given n
 takenAnswer n (step-answer.Refused r) = refused (refusalNumber r)
 
 abbrev pub takenStore : StepAnswer → Store → Store
-takenStore (step-answer.Added c) s = withCell (c .start) (c .header) s
+takenStore (step-answer.Added c) s = withCell c s
 takenStore (step-answer.Refused r) s = s

@@ -83,7 +83,13 @@ impl Store {
                 },
                 PlaceAnswer::At(at) => Stored {
                     answer: CellAnswer::Added(self.count),
-                    store: with_cell(self, at, h),
+                    store: with_cell(
+                        self,
+                        Cell {
+                            start: at,
+                            header: h,
+                        },
+                    ),
                 },
             },
         }
@@ -128,7 +134,7 @@ impl Store {
                     },
                     StepAnswer::Added(c) => Stored {
                         answer: CellAnswer::Added(self.count),
-                        store: with_cell(self, c.start, c.header),
+                        store: with_cell(self, c),
                     },
                 }
             }

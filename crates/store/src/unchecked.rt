@@ -24,7 +24,7 @@ ghost use Rattle.refusal.specs.Outcome.{outcome};
 ghost use Rattle.words.specs.Planes.{lentBy};
 ghost use Rattle.cells.specs.Cells.{placeAnswer};
 ghost use Rattle.cells.specs.Places.{fieldsBy, fieldsOf};
-ghost use Rattle.store.specs.Store.{storeOf, withCell};
+ghost use Rattle.store.specs.Store.{storeBy, withCell};
 ghost use Rattle.store.specs.Step.{memoryBy, addStep};
 ghost use Rattle.store.specs.Taken.{Laid, takeInput, takenAnswer, takenStore};
 
@@ -36,8 +36,7 @@ pub fn store_of<'a>(
     signs: &'a [bool; 320],
     fills: &'a [bool; 320],
 ) -> Store
-    ensures { λ r. ⌜ r
-        ≡ storeOf count (fieldsBy (starts .entry) (widths .entry) (signs .entry) (fills .entry)) ⌝ }
+    ensures { λ r. ⌜ r ≡ storeBy count (starts .entry) (widths .entry) (signs .entry) (fills .entry) ⌝ }
 {
     let mut s = Store::new();
     let mut i = 0;
@@ -68,16 +67,13 @@ pub fn fields_of(s: Store) -> Fields
 }
 
 // The store with one cell more.
-pub fn with_cell(s: Store, start: usize, header: Header) -> Store
+pub fn with_cell(s: Store, c: Cell) -> Store
     requires { ⌜ s .count < 320 ⌝ }
-    ensures { λ r. ⌜ r ≡ withCell start header s ⌝ }
+    ensures { λ r. ⌜ r ≡ withCell c s ⌝ }
 {
     let k = s.count;
     let mut t = s;
-    t.cells[k] = Cell {
-        start: start,
-        header: header,
-    };
+    t.cells[k] = c;
     t.count = k + 1;
     t
 }
@@ -126,12 +122,10 @@ pub fn take_step<'a>(
 ) -> StepAnswer
     requires { ⌜ Laid (fieldsBy starts widths signs fills) count next (lentBy av au) ⌝ }
     ensures { λ r. ⌜ outcome (takenAnswer count r)
-        (memoryBy
-        (takenStore r (storeOf count (fieldsBy (starts .entry) (widths .entry) (signs .entry) (fills .entry))))
+        (memoryBy (takenStore r (storeBy count (starts .entry) (widths .entry) (signs .entry) (fills .entry)))
         (av .exit) (au .exit) (sv .exit) (su .exit))
         ≡ addStep
-        (memoryBy
-        (storeOf count (fieldsBy (starts .entry) (widths .entry) (signs .entry) (fills .entry)))
+        (memoryBy (storeBy count (starts .entry) (widths .entry) (signs .entry) (fills .entry))
         (av .entry) (au .entry) (sv .entry) (su .entry))
         step ⌝ }
 {

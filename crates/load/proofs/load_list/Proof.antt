@@ -10,17 +10,15 @@ use Rattle.refusal.specs.Outcome.Answer.{given, refused}
 use Rattle.words.specs.Planes.{Planes, lent}
 use Rattle.cells.specs.declared.Fields.{Fields}
 use Rattle.cells.specs.Places.{noFields}
-use Rattle.cells.proofs.Places.{whole-none}
 use Rattle.store.specs.declared.Store.{Store}
 use Rattle.store.specs.Store.{state, storeOf, emptyStore}
 use Rattle.store.proofs.Placed.{store-empty}
-use Rattle.store.proofs.Laid.{no-words, lay-none}
 use Rattle.steplist.specs.Listing.{StepList, whole}
 use Rattle.steplist.specs.Answers.{listIn}
 use Rattle.steplist.proofs.Listed.{listed-counts, listed-places}
 use Rattle.load.specs.Inputs.{loadList}
-use Rattle.load.specs.Limits.{AllThin, Fitted}
-use Rattle.load.proofs.Thin.{thin-new}
+use Rattle.load.specs.Limits.{Fitted}
+use Rattle.load.proofs.Fitted.{fitted-none}
 use borrow.Author.Needs.{needs}
 use Rattle.load.proofs.load_list.Statement.{statement}
 use Rattle.load.proofs.load_list.Tie as tie
@@ -44,10 +42,7 @@ module _ (k : tie.After-read-list) where
 
 -- no cells
 none : (a : Planes) (f : Fields) → f ≡ noFields → (state (storeOf 0 f) a ≡ state emptyStore a) × Fitted f 0 0 a
-none a f e = (
-  ap (λ (s : Store). state s a) (ap (storeOf 0) e ∙ sym store-empty),
-  subst (λ (x : Fields). Fitted x 0 0 a) (sym e) (record { whole = whole-none; thin = subst AllThin store-empty thin-new; words = no-words; laid = lay-none a }),
-)
+none a f e = (ap (λ (s : Store). state s a) (ap (storeOf 0) e ∙ sym store-empty), subst (λ (x : Fields). Fitted x 0 0 a) (sym e) (fitted-none a))
 
 load-inputs-requires : tie.Need-load-inputs-requires
 load-inputs-requires c κs =

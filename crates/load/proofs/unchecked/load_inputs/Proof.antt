@@ -8,6 +8,7 @@ use Rattle.refusal.specs.Refusals.{refusalNumber}
 use Rattle.refusal.specs.Outcome.{outcome}
 use Rattle.refusal.specs.Outcome.Answer.{given, refused}
 use Rattle.words.specs.Planes.{wordCount, Planes, lent, planesOf}
+use Rattle.words.specs.Vector.{tabulate}
 use Rattle.words.proofs.Planes.{length-tabulate}
 use Rattle.text.proofs.Vectors.{bits-length}
 use Rattle.value.specs.declared.Header.{Header}
@@ -17,21 +18,22 @@ use Rattle.cells.specs.declared.Fields.{Fields}
 use Rattle.cells.specs.declared.PlaceAnswer.{PlaceAnswer}
 use Rattle.cells.specs.declared.PlaceAnswer.the-variants.{At, Refused}
 use Rattle.cells.specs.Cells.{placeAnswer}
-use Rattle.cells.specs.Places.{Whole, cellOf, placesOf}
+use Rattle.cells.specs.Places.{cellOf, placesOf}
 use Rattle.cells.proofs.Agreed.{next-within}
-use Rattle.cells.proofs.Places.{whole-none, putFields, put-whole}
+use Rattle.cells.proofs.Places.{putFields}
 use Rattle.store.specs.declared.Store.{Store}
-use Rattle.store.specs.Store.{State, state, storeOf, nextWord, emptyStore, addInput, withCell}
+use Rattle.store.specs.Store.{State, state, storeOf, nextWord, emptyStore, withCell}
 use Rattle.store.specs.Taken.{Laid, takeInput}
 use Rattle.store.proofs.Placed.{store-empty}
-use Rattle.store.proofs.Taken.{store-refused, input-refused, input-left, input-at, input-few, input-taken}
+use Rattle.store.proofs.Taken.{store-refused, input-refused, InputTaken, input-taken}
 use Rattle.store.proofs.Held.{state-uneven}
-use Rattle.store.proofs.Laid.{no-words, lay-none, with-fields, lay-more, input-agrees}
+use Rattle.store.proofs.Laid.{with-fields, lay-more, input-agrees}
 use Rattle.steplist.specs.declared.StepList.{StepList}
 use Rattle.steplist.specs.Answers.{noInput, inputIn}
-use Rattle.load.specs.Limits.{Thin}
-use Rattle.load.proofs.Thin.{thin-new}
-use Rattle.load.proofs.Loops.{even, uneven, Fed, feed-start, feed-more, feed-last, feed-done}
+use Rattle.load.specs.Inputs.{addInputs}
+use Rattle.load.specs.Limits.{Thin, Fitted}
+use Rattle.load.proofs.Fitted.{fitted-none, fitted-more}
+use Rattle.load.proofs.Loops.{even, uneven, Fed, feed-more, feed-last, feed-done}
 use borrow.Author.Needs.{needs}
 use Rattle.load.proofs.unchecked.load_inputs.Statement.{statement}
 use Rattle.load.proofs.unchecked.load_inputs.Tie as tie
@@ -44,10 +46,8 @@ record Inv (t av₀ au₀ : List ℕ) (l : StepList) (av au : List ℕ) (f : Fie
   unknown-long : length au ≡ length au₀
   within : i ≤ l .«input_count»
   level : 0 < l .«input_count» → length av ≡ length au
-  whole : Whole f
-  words : next ≡ nextWord (storeOf i f)
+  fitted : Fitted f i next (lent av au)
   fed : Fed (state emptyStore (lent av₀ au₀)) (l .«input_count») (input t l) (state (storeOf i f) (lent av au)) i
-  laid : length av ≡ length au → Laid f i next (lent av au)
 
 abbrev Inv-loop : tie.InvT-loop
 Inv-loop text av₀ au₀ list f₀ next₀ i₀ av au f next i = Inv text av₀ au₀ list av au f next i
@@ -73,14 +73,11 @@ module _ (k : tie.After-no-fields Inv-loop μ-loop) where
       ap (λ (f : Fields). state (storeOf 0 f) lent-arenas) (k .no-fields .ensures)
       ∙ ap (λ (s : Store). state s lent-arenas) (sym store-empty)
 
-  none-words : 0 ≡ nextWord (storeOf 0 (k .no-fields .result))
-  none-words = subst (λ (f : Fields). 0 ≡ nextWord (storeOf 0 f)) (sym (k .no-fields .ensures)) no-words
-
-  none-laid : length (lent-arenas .value) ≡ length (lent-arenas .unknown) → Laid (k .no-fields .result) 0 0 lent-arenas
-  none-laid e = subst (λ (f : Fields). Laid f 0 0 lent-arenas) (sym (k .no-fields .ensures)) (lay-none lent-arenas e)
+  none-fitted : Fitted (k .no-fields .result) 0 0 lent-arenas
+  none-fitted = subst (λ (f : Fields). Fitted f 0 0 lent-arenas) (sym (k .no-fields .ensures)) (fitted-none lent-arenas)
 
   none-fed : Fed empty (begin .args .t1 .«input_count») (input (begin .args .text .now) (begin .args .t1)) (state (storeOf 0 (k .no-fields .result)) lent-arenas) 0
-  none-fed = feed-start (begin .args .t1 .«input_count») (input (begin .args .text .now) (begin .args .t1)) empty _ none thin-new
+  none-fed = ap (λ (s : State). addInputs s (tabulate (begin .args .t1 .«input_count») (input (begin .args .text .now) (begin .args .t1)))) (sym none)
 
 -- ---- in a turn, once the input is taken
 
@@ -122,7 +119,7 @@ module _ (a : tie.After-load-input Inv-loop μ-loop) where
   level = l .loop .inv .level (omega (arith, inside))
 
   laid : Laid f i (l .loop .next) (s .arenas)
-  laid = l .loop .inv .laid level
+  laid = l .loop .inv .fitted .laid level
 
   places : length (s .store .cells) ≡ 320
   places = length-tabulate 320 (cellOf f)
@@ -162,19 +159,16 @@ module _ (r : tie.After-known-told2 Inv-loop μ-loop) where
   taken : outcome (given at) (left b) ≡ takeInput (i b) (nextWord (s b .store)) h (planesOf (v b .bits)) (s b .arenas)
   taken = told b (At at) (r .before .at .given .1)
 
-  few : i b < 320
-  few = input-few (s b) h (planesOf (v b .bits)) (places b) (laid b .agreed) at (left b) taken
+  is : InputTaken (s b) h (planesOf (v b .bits)) (places b) (laid b .agreed) at (left b)
+  is = input-taken (s b) h (planesOf (v b .bits)) (places b) (laid b .agreed) at (left b) taken
 
-  added : outcome (given (i b)) (state (withCell at h (s b .store)) (left b)) ≡ addInput (s b) h (planesOf (v b .bits))
-  added = input-taken (s b) h (planesOf (v b .bits)) (places b) (laid b .agreed) at (left b) taken
+  abbrev cell : Cell
+  cell = record { start = at; header = h }
 
-  at-next : at ≡ nextWord (s b .store)
-  at-next = input-at (s b) h (planesOf (v b .bits)) (places b) (laid b .agreed) at (left b) taken
-
-  more : Laid (putFields (f b) (i b) (record { start = at; header = h })) (i b + 1) (at + wordCount (h .width)) (left b)
+  more : Laid (putFields (f b) (i b) cell) (i b + 1) (at + wordCount (h .width)) (left b)
   more =
-      lay-more (f b) (i b) at at h (l b .loop .inv .whole) few (left b) at-next
-      (input-agrees (s b) (state (withCell at h (s b .store)) (left b)) (v b) (i b) (places b) (width b) added (laid b .agreed))
+      lay-more (f b) (i b) cell (l b .loop .inv .fitted .whole) (is .few) (left b) (is .begins)
+      (input-agrees (s b) (state (withCell cell (s b .store)) (left b)) (v b) (i b) (places b) (width b) (is .added) (laid b .agreed))
 
   within : at + wordCount (h .width) ≤ length (left b .value)
   within = omega (arith, more .words, next-within (left b) _ (i b + 1) (more .agreed))
@@ -188,8 +182,7 @@ returns c =
     let u = uneven n (length (g .av .now)) (length (g .au .now)) (c .if1 .taken) in
     let s = state (storeOf 0 (k .no-fields .result)) (lent-arenas k) in
     let e = store-refused s 14 (state-uneven s (u .1)) .0 (x 0 .header) (planesOf (x 0 .bits)) in
-    let r = feed-last n x (empty k) s 0 (none-fed k) (u .0) 14 s e (begin k .pre .inputs 0 (u .0) .1) in
-    (r .0, record { whole = subst Whole (sym (k .no-fields .ensures)) whole-none; thin = r .1; words = none-words k; laid = none-laid k })
+    (feed-last n x (empty k) s 0 (none-fed k) (u .0) 14 s e, none-fitted k)
 
 loop-holds : tie.Need-loop-holds Inv-loop μ-loop
 loop-holds c =
@@ -200,10 +193,8 @@ loop-holds c =
       unknown-long = refl;
       within = omega arith;
       level = even (g .t1 .«input_count») (length (g .av .now)) (length (g .au .now)) (c .if1 .left);
-      whole = subst Whole (sym (k .no-fields .ensures)) whole-none;
-      words = none-words k;
+      fitted = none-fitted k;
       fed = none-fed k;
-      laid = none-laid k;
     }
 
 mul-x : tie.Need-mul-x Inv-loop μ-loop
@@ -218,7 +209,7 @@ load-input-requires c κs =
     let st = l .before .before .before .before .before .before in
     let inside = c .before .before .before .loop-test .taken in
     let level = l .loop .inv .level (omega (arith, inside)) in
-    let laid = l .loop .inv .laid level in
+    let laid = l .loop .inv .fitted .laid level in
     let within = next-within (lent (l .loop .av) (l .loop .au)) (placesOf (l .loop .f)) (l .loop .i) (laid .agreed) in
     (st .pre .inputs (l .loop .i) inside, (omega (arith, within, laid .words), level))
 
@@ -226,49 +217,46 @@ returns-2 : tie.Need-returns-2 Inv-loop μ-loop
 returns-2 c =
     let a = at-refused c in
     let p = planesOf (v a .bits) in
-    let e = input-refused (s a) (v a .header) p (places a) (laid a .agreed) (number c) (left a) (not-taken c) in
-    let q = input-left (s a) (v a .header) p (places a) (laid a .agreed) (number c) (left a) (not-taken c) in
-    let r = feed-last (st a .args .t1 .«input_count») (vectors a) (from a) (s a) (i a) (l a .loop .inv .fed) (inside a) (number c) (state (storeOf (i a) (f a)) (left a)) e (thin a) in
-    (r .0, record { whole = l a .loop .inv .whole; thin = r .1; words = l a .loop .inv .words; laid = λ z. subst (Laid (f a) (i a) (l a .loop .next)) (sym q) (laid a) })
+    let e = input-refused (s a) (v a .header) p (places a) (laid a .agreed) (number c) (left a) (not-taken c) in (
+      feed-last (st a .args .t1 .«input_count») (vectors a) (from a) (s a) (i a) (l a .loop .inv .fed) (inside a) (number c) (state (storeOf (i a) (f a)) (left a)) (e .1),
+      subst (Fitted (f a) (i a) (l a .loop .next)) (sym (e .0)) (l a .loop .inv .fitted),
+    )
 
 loop-again : tie.Need-loop-again Inv-loop μ-loop
 loop-again c =
     let t = c .before .before in
     let a = b t in
-    let cell : Cell = record { start = at t; header = h t } in
     let kept = a .load-input .kept .1 .1 .1 .1 in
     let w : at t + c .word-count .result ≡ at t + wordCount (h t .width) = ap (λ (n : ℕ). at t + n) (c .word-count .ensures) in
-    let x = ap (λ (z : Store). outcome (given (i a)) (state z (left a))) (sym (with-fields (f a) (i a) (at t) (at t) (h t) (l a .loop .inv .whole) (few t))) ∙ added t in
+    let x = ap (λ (z : Store). outcome (given (i a)) (state z (left a))) (sym (with-fields (f a) (i a) (cell t) (l a .loop .inv .fitted .whole) (is t .few))) ∙ is t .added in
     record {
       value-long = kept .0 ∙ l a .loop .inv .value-long;
       unknown-long = kept .1 .0 ∙ l a .loop .inv .unknown-long;
       within = omega (arith, inside a);
       level = λ z. kept .0 ∙ level a ∙ sym (kept .1 .0);
-      whole = put-whole (f a) (i a) cell (l a .loop .inv .whole);
-      words = w ∙ more t .words;
+      fitted = fitted-more (f a) (i a) (l a .loop .next) (s a .arenas) (l a .loop .inv .fitted) (is t .few) (cell t) (thin a) _ (left a) w (more t);
       fed =
           feed-more (st a .args .t1 .«input_count») (vectors a) (from a) (s a) (i a) (l a .loop .inv .fed) (inside a) (i a)
-          (state (storeOf (i a + 1) (putFields (f a) (i a) cell)) (left a)) x (thin a);
-      laid = λ z. subst (λ (n : ℕ). Laid (putFields (f a) (i a) cell) (i a + 1) n (left a)) (sym w) (more t);
+          (state (storeOf (i a + 1) (putFields (f a) (i a) (cell t))) (left a)) x;
     }
 
 mul-f : tie.Need-mul-f Inv-loop μ-loop
-mul-f c = omega (arith, few (c .before))
+mul-f c = omega (arith, is (c .before) .few)
 
 element-write-f : tie.Need-element-write-f Inv-loop μ-loop
-element-write-f c = omega (arith, few (c .before))
+element-write-f c = omega (arith, is (c .before) .few)
 
 mul-f-2 : tie.Need-mul-f-2 Inv-loop μ-loop
-mul-f-2 c = omega (arith, few (c .before))
+mul-f-2 c = omega (arith, is (c .before) .few)
 
 element-write-f-2 : tie.Need-element-write-f-2 Inv-loop μ-loop
-element-write-f-2 c = omega (arith, few (c .before))
+element-write-f-2 c = omega (arith, is (c .before) .few)
 
 element-write-f-3 : tie.Need-element-write-f-3 Inv-loop μ-loop
-element-write-f-3 c = omega (arith, few (c .before))
+element-write-f-3 c = omega (arith, is (c .before) .few)
 
 element-write-f-4 : tie.Need-element-write-f-4 Inv-loop μ-loop
-element-write-f-4 c = omega (arith, few (c .before))
+element-write-f-4 c = omega (arith, is (c .before) .few)
 
 add-next : tie.Need-add-next Inv-loop μ-loop
 add-next c =
@@ -277,7 +265,7 @@ add-next c =
     omega (arith, within t, c .word-count .ensures, a .load-input .kept .1 .1 .1 .1 .0, l a .loop .inv .value-long, st a .good .1 .1 .0)
 
 add-i : tie.Need-add-i Inv-loop μ-loop
-add-i c = let t = c .before .before in omega (arith, few t)
+add-i c = let t = c .before .before in omega (arith, is t .few)
 
 loop-less : tie.Need-loop-less Inv-loop μ-loop
 loop-less c = let t = c .before .before in omega (arith, inside (b t))
@@ -290,7 +278,7 @@ returns-3 c =
     let x = input (a .text .now) (a .t1) in (
       feed-done n x (state emptyStore (lent (a .av .now) (a .au .now))) (state (storeOf (l .loop .i) (l .loop .f)) (lent (l .loop .av) (l .loop .au))) (l .loop .i)
           (l .loop .inv .fed) (c .loop-test .left),
-      record { whole = l .loop .inv .whole; thin = l .loop .inv .fed .thin; words = l .loop .inv .words; laid = l .loop .inv .laid },
+      l .loop .inv .fitted,
     )
 
 pub load-inputs-spec : {M : Type 1} → statement M

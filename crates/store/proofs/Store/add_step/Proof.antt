@@ -7,16 +7,14 @@ use Rattle.refusal.specs.Outcome.{outcome}
 use Rattle.refusal.specs.Outcome.Answer.{given}
 use Rattle.words.specs.Planes.{Planes, lent}
 use Rattle.cells.specs.Cells.{placeAnswer}
-use Rattle.cells.proofs.Answers.{answer-given, answer-refused}
-use Rattle.cells.proofs.Agreed.{cells-accepted}
 use Rattle.store.specs.declared.Store.{Store}
 use Rattle.store.specs.declared.StepAnswer.{StepAnswer}
 use Rattle.store.specs.declared.StepAnswer.the-variants.{Added, Refused}
-use Rattle.store.specs.Store.{State, state, storeOf, nextWord, agrees, checkStore}
+use Rattle.store.specs.Store.{State, state, storeOf, nextWord, agrees}
 use Rattle.store.specs.Step.{Memory, memory, addStep}
 use Rattle.store.specs.Taken.{takenAnswer, takenStore}
 use Rattle.store.proofs.Placed.{store-again}
-use Rattle.store.proofs.Taken.{store-refused, step-few}
+use Rattle.store.proofs.Taken.{told-refused, told-accepted, store-refused, step-few}
 use borrow.Author.Needs.{needs}
 use Rattle.store.proofs.Store.add_step.Statement.{statement}
 use Rattle.store.proofs.Store.add_step.Tie as tie
@@ -38,13 +36,8 @@ module _ (t : tie.After-known-told2) where
   abbrev k : tie.After-check-cells
   k = t .before .before .before
 
-  found : (checkStore (all k) ≡ given tt) × (nextWord (st k .args .self) ≡ t .before .next .given .0 .0)
-  found =
-      answer-given (checkStore (all k)) (nextWord (st k .args .self)) (t .before .next .given .0 .0)
-      (sym (k .check-cells .ensures) ∙ ap placeAnswer (t .before .next .given .1))
-
-  agreed : agrees (all k) ≡ true
-  agreed = cells-accepted (all k .arenas) (all k .store .cells) (all k .store .count) (found .0)
+  found : (agrees (all k) ≡ true) × (nextWord (st k .args .self) ≡ t .before .next .given .0 .0)
+  found = told-accepted (all k) (t .before .next .given .0 .0) (sym (k .check-cells .ensures) ∙ ap placeAnswer (t .before .next .given .1))
 
 -- the four arrays are those of the store
 module _ (f : tie.After-fields-of) where
@@ -81,7 +74,7 @@ take-step-requires : tie.Need-take-step-requires
 take-step-requires c κs =
     let f = c .before .before .before .before .before .before .before .before .before in
     let t = f .before in
-    record { agreed = subst (λ (s : Store). agrees (state s (all (k t) .arenas)) ≡ true) (same f) (agreed t); words = sym (found t .1) ∙ ap nextWord (same f) }
+    record { agreed = subst (λ (s : Store). agrees (state s (all (k t) .arenas)) ≡ true) (same f) (found t .0); words = sym (found t .1) ∙ ap nextWord (same f) }
 
 with-cell-requires : tie.Need-with-cell-requires
 with-cell-requires c κs =
@@ -93,7 +86,8 @@ returns : tie.Need-returns
 returns c =
     let b = c .before .before .before in
     let r = refusalNumber (c .before .r .given .0 .0) in
-    store-refused (all b) r (answer-refused (checkStore (all b)) (nextWord (st b .args .self)) r (sym (b .check-cells .ensures) ∙ ap placeAnswer (c .before .r .given .1))) .1 (scratch b) (st b .args .step)
+    let e = told-refused (all b) r (sym (b .check-cells .ensures) ∙ ap placeAnswer (c .before .r .given .1)) in
+    store-refused (all b) r e .1 (scratch b) (st b .args .step)
 
 returns-2 : tie.Need-returns-2
 returns-2 c =

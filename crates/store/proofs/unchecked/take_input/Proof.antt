@@ -1,37 +1,24 @@
 -- `store::unchecked::take_input`: the plan decides; the words of a vector in order are its planes.
-use mathlib.Core.Path.{_≡_, refl, sym, ap, ap₂, _∙_}
-use mathlib.Core.Bool.{Bool, true, false, cond}
+use mathlib.Core.Path.{_≡_, sym, ap, ap₂, _∙_}
 use mathlib.Core.List.{List}
 use Prim.Native.Nat.{ℕ, _-_, _≤_}
 use native.Mathlib.Omega.{arith}
-use borrow.Author.Tests.{ltb-false}
-use lib.Dec.{ltb}
 use lib.ListN.{length, take}
 use lib.Seq.{take-all}
 use Rattle.refusal.specs.Refusals.{refusalNumber}
 use Rattle.refusal.specs.Outcome.{Answer, Outcome, outcome, after, orRefuse}
-use Rattle.refusal.specs.Outcome.Answer.{given, refused}
+use Rattle.refusal.specs.Outcome.Answer.{given}
 use Rattle.words.specs.Planes.{wordCount, Planes, lent, planesOf, vectorOf}
 use Rattle.bits.proofs.Splice.{planes-again}
 use Rattle.value.specs.Checks.{checkVector}
 use Rattle.value.proofs.Checks.{Sound, vector-accepted}
-use Rattle.machine.specs.Machine.{checkCount, checkBehind}
+use Rattle.machine.specs.Machine.{checkCount, checkRoom, checkBehind}
 use Rattle.cells.specs.Cells.{placeAnswer, putPlanes}
-use Rattle.cells.proofs.Answers.{not-given, answer-given, answer-refused}
+use Rattle.cells.proofs.Answers.{after-given, answer-given, answer-refused, room-left}
 use Rattle.store.specs.Store.{roomOf, noScratch}
 use borrow.Author.Needs.{needs}
 use Rattle.store.proofs.unchecked.take_input.Statement.{statement}
 use Rattle.store.proofs.unchecked.take_input.Tie as tie
-
-passed : (a b : Answer Unit) (d w : ℕ) → _≡_ {A = Answer Unit} (after a (after b (cond (ltb d w) (refused 13) (given tt)))) (given tt)
-    → (b ≡ given tt) × (w ≤ d)
-passed (refused k) b d w e = absurd (not-given k tt e)
-passed (given t) (refused k) d w e = absurd (not-given k tt e)
-passed (given t) (given u) d w e = (refl, go (ltb d w) refl e)
-  where
-    go : (z : Bool) → ltb d w ≡ z → _≡_ {A = Answer Unit} (cond z (refused 13) (given tt)) (given tt) → w ≤ d
-    go true q e = absurd (not-given 13 tt e)
-    go false q e = ltb-false d w q
 
 -- once the input is planned
 module _ (k : tie.After-plan-input) where
@@ -68,7 +55,10 @@ module _ (t : tie.After-known-told2) where
   accepted : (checkVector (st p .args .h) (input p) ≡ given tt) × (wordCount (st p .args .h .width) ≤ length (arenas p .value) - st p .args .next)
   accepted =
       let g = st p .args in
-      passed (checkCount (g .count)) (checkVector (g .h) (input p)) (length (arenas p .value) - g .next) (wordCount (g .h .width)) (found .0)
+      let r = roomOf (arenas p) noScratch in
+      let x = after-given (checkCount (g .count)) (after (checkVector (g .h) (input p)) (checkRoom r (g .next) (g .h .width))) tt (found .0) in
+      let y = after-given (checkVector (g .h) (input p)) (checkRoom r (g .next) (g .h .width)) tt (x .1) in
+      (y .0, room-left r (g .next) (g .h .width) (y .1))
 
   sound : Sound (st p .args .h) (input p)
   sound = vector-accepted (st p .args .h) (input p) (accepted .0)

@@ -104,7 +104,7 @@ returns-2 c =
     let x = c .before .before .before .before .before .before .before .before .before in
     let t = x .before .before .before .before .before in
     let st = from t in
-    ap (λ (l : LentMemory). outcome (given (n st)) (memory (state (withCell (p t .start) (p t .header) (storeOf (n st) (table st))) (l .arenas)) (l .scratch))) (x .execute .ensures)
+    ap (λ (l : LentMemory). outcome (given (n st)) (memory (state (withCell (record { start = p t .start; header = p t .header }) (storeOf (n st) (table st))) (l .arenas)) (l .scratch))) (x .execute .ensures)
     ∙ step-taken (n st) (table st) (m st) (st .args .step) (st .pre .agreed) (found t .0) (p t) (found t .1)
 
 pub take-step-spec : {M : Type 1} → statement M
