@@ -1,5 +1,5 @@
 //! The reference and the library side by side, in one run of about a minute; prints the figures of docs/PERFORMANCE.md. Words on the command
-//! line name the operators to run, all without any.
+//! line name the operators to run, all without any; the copy and the runs of step lists are always taken.
 //!
 //! reference: the operator of `Value`, which allocates its result where that is wider than 64 bits; the drop is in the time too.
 //! ours: the function over planes, every check included, into planes that are lent again for each call.
@@ -9,13 +9,13 @@
 //! equal operands; all 1 or all 0 but for unknown bits; for the reduction by xor only the top bit is unknown.
 mod inputs;
 mod race;
+mod runs;
 
 use inputs::{output, Input};
 use race::{Race, Side};
 use std::hint::black_box;
 use vowherunga::reference::draw::Rng;
 use vowherunga::reference::value::Value;
-use vowherunga::steps::{run, OUTPUT_BYTES};
 use vowherunga::{bitwise, compare, reduce, Header, LogicBit, Narrow, Operand, Refusal, MAX_WIDTH};
 
 const WIDTHS: [u32; 7] = [1, 32, 64, 65, 128, 4096, MAX_WIDTH];
@@ -198,35 +198,6 @@ fn against_copy(rng: &mut Rng) -> Race {
     ])
 }
 
-/// A step list of one input of 64 bits, all 0, and `steps` steps, in turn and, or, xor of the input with the cell before.
-fn list(steps: usize) -> String {
-    let mut list = format!("inputs=1\nsteps={steps}\nwidth=64\nkind=u\nbits={}\n", "0".repeat(64));
-    for step in 0..steps {
-        let op = ["and", "or", "xor"][step % 3];
-        list += &format!("op={op}\na=0\nb={step}\nc=0\n");
-    }
-    list
-}
-
-/// The runs of such lists, parsing and output included; one side for each number of steps.
-fn runs(steps: [usize; 3]) -> Race {
-    let sides = steps.map(|steps| {
-        let text = list(steps);
-        let mut planes = [(); 4].map(|()| vec![0; 2048]);
-        let mut out = vec![0; OUTPUT_BYTES].into_boxed_slice();
-        let side: Side = Box::new(move |calls| {
-            let [av, au, sv, su] = &mut planes;
-            let out: &mut [u8; OUTPUT_BYTES] = (&mut out[..]).try_into().expect("a buffer of that length");
-            for _ in 0..calls {
-                let ran = run(black_box(text.as_bytes()), av, au, sv, su, out);
-                assert_eq!(ran.ending, Ok(steps as u32));
-            }
-        });
-        side
-    });
-    Race::new(sides.into())
-}
-
 fn rows() -> Rows {
     let mut rows = Rows(Vec::new(), Rng::new(99));
     rows.of_two("and", Value::bitwise_and, bitwise::bitwise_and, Narrow::bitwise_and);
@@ -279,25 +250,35 @@ fn main() {
     let named: Vec<String> = std::env::args().skip(1).collect();
     rows.retain(|row| named.is_empty() || named.iter().any(|op| op == row.op));
     let mut copy = against_copy(&mut rng);
-    let steps = [0, 64, 256];
-    let mut runs = runs(steps);
+    let (list, store) = ([0, 64, 256], [0, 1, 256]);
+    let (mut listed, mut kept) = (runs::listed(list), runs::kept(store));
     for _ in 0..ROUNDS {
         rows.iter_mut().for_each(|row| row.race.round());
         copy.round();
-        runs.round();
+        listed.round();
+        kept.round();
     }
-    print_table(&rows, "ours");
-    print_table(&rows, "by value");
+    if !rows.is_empty() {
+        print_table(&rows, "ours");
+        print_table(&rows, "by value");
+    }
     let r = copy.result();
     println!(
         "\n`and` of {MAX_WIDTH} bits, which reads four planes and writes two, takes {:.0} ns; to copy two planes of that width to two others \
          takes {:.0} ns: {:.2} times ({:.2} to {:.2}). A bare loop in Rust that does the same, without a check, takes {:.0} ns.",
         r.times[2], r.times[0], r.ratio, r.least, r.largest, r.times[1]
     );
-    let times = runs.result().times;
+    let times = listed.result().times;
     println!();
-    for (steps, ns) in steps.iter().zip(&times) {
+    for (steps, ns) in list.iter().zip(&times) {
         println!("A run of {steps} steps of 64 bits takes {:.1} µs.", ns / 1000.0);
     }
-    println!("A step of 256 takes {:.0} ns.", (times[2] - times[0]) / steps[2] as f64);
+    println!("A step of {} takes {:.0} ns.", list[2], (times[2] - times[0]) / list[2] as f64);
+    let times = kept.result().times;
+    println!(
+        "`add_step` takes {:.0} ns in a store of one cell, and {:.0} ns as a mean over {} steps.",
+        times[1] - times[0],
+        (times[2] - times[0]) / store[2] as f64,
+        store[2]
+    );
 }
