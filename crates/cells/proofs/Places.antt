@@ -8,7 +8,7 @@ use mathlib.Core.Path.{_≡_, refl, sym, ap, _∙_}
 use mathlib.Core.Logic.{_≢_}
 use mathlib.Core.Bool.{Bool, true, false}
 use mathlib.Core.List.{List, _∷_}
-use Prim.Native.Nat.{ℕ, zero, suc, _<_}
+use Prim.Native.Nat.{ℕ, zero, suc, _≤_, _<_}
 use native.Mathlib.Omega.{arith}
 use borrow.Author.Tests.{eqb-true, eqb-false}
 use lib.Dec.{eqb}
@@ -33,14 +33,14 @@ places-again cs e = sym (eq-tabulate 320 (cellOf (fieldsOf cs)) cs noCell e (λ 
         let f = List·getD-map (λ (c : Cell). c .header .«is_fill») cs i noCell in
         λ k. record { start = a k; header = record { width = b k; «is_signed» = s k; «is_fill» = f k } }
 
-pub headers-places : (n : ℕ) (f : Fields) → cellHeaders (take n (placesOf f)) ≡ take n (tabulate 320 (headerOf (f .widths) (f .signs) (f .fills)))
+pub headers-places : (n : ℕ) (f : Fields) → n ≤ 320 → cellHeaders (take n (placesOf f)) ≡ tabulate n (headerOf (f .widths) (f .signs) (f .fills))
 unfolding tabulate
-headers-places n f = go n 320 (cellOf f)
+headers-places n f h = go n 320 (cellOf f) h
   where
-    go : (n m : ℕ) (g : ℕ → Cell) → cellHeaders (take n (tabulate m g)) ≡ take n (tabulate m (λ i. g i .header))
-    go zero m g = refl
-    go (suc n) zero g = refl
-    go (suc n) (suc m) g = ap (λ (hs : List Header). g 0 .header ∷ hs) (go n m (λ i. g (suc i)))
+    go : (n m : ℕ) (g : ℕ → Cell) → n ≤ m → cellHeaders (take n (tabulate m g)) ≡ tabulate n (λ i. g i .header)
+    go zero m g h = refl
+    go (suc n) zero g h = absurd (omega arith)
+    go (suc n) (suc m) g h = ap (λ (hs : List Header). g 0 .header ∷ hs) (go n m (λ i. g (suc i)) (omega arith))
 
 pub cell-among : (f : Fields) (n i : ℕ) (d : Cell) → i < n → n < 321 → getD (take n (placesOf f)) i d ≡ cellOf f i
 cell-among f n i d h l = getD-take n (placesOf f) i d h ∙ getD-tabulate 320 (cellOf f) i d (omega arith)

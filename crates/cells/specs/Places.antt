@@ -5,7 +5,7 @@ use mathlib.Core.Bool.{Bool, false}
 use mathlib.Core.List.{List, map}
 use Prim.Native.Nat.{ℕ}
 use denote.Ref.{RefT, now}
-use lib.ListN.{length, getD, take, replicate}
+use lib.ListN.{length, getD, replicate}
 use Rattle.words.specs.Vector.{tabulate}
 use Rattle.value.specs.declared.Header.{Header}
 use Rattle.value.specs.Checks.{plain}
@@ -40,7 +40,7 @@ placesOf f = tabulate 320 (cellOf f)
 
 -- the first n headers, by the references
 abbrev pub headersBy : ℕ → (widths : RefT (List ℕ)) → (signs fills : RefT (List Bool)) → List Header
-headersBy n w s f = take n (tabulate 320 (headerOf (now w) (now s) (now f)))
+headersBy n w s f = tabulate n (headerOf (now w) (now s) (now f))
 
 -- the four lists of these cells
 abbrev pub fieldsOf : List Cell → Fields

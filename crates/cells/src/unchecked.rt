@@ -1,7 +1,5 @@
-// A cell's words, the check of cells, and words put behind the last cell. Most of these ask their caller for what a check has found.
+// A cell by its place, its words and their check, and words put behind the last cell. These ask their caller for what a check has found.
 use crate::Cell;
-use crate::PlaceAnswer;
-use refusal::Refusal;
 use refusal::Verdict;
 use value::Header;
 use value::check_vector;
@@ -10,11 +8,9 @@ use words::word_count;
 ghost use mathlib.Core.Path.{_≡_};
 ghost use Prim.Native.Nat.{_≤_, _<_, _+_};
 ghost use lib.ListN.{length, take};
-ghost use Rattle.refusal.specs.Outcome.{after};
-ghost use Rattle.refusal.specs.Outcome.Answer.{given};
 ghost use Rattle.words.specs.Planes.{lent, lentBy};
 ghost use Rattle.cells.specs.Places.{fieldsBy, headerOf, cellOf};
-ghost use Rattle.cells.specs.Cells.{cellWords, span, wordBehind, cellAgrees, checkCells, placeAnswer, putPlanes};
+ghost use Rattle.cells.specs.Cells.{cellWords, span, cellAgrees, putPlanes};
 
 // The header of the cell at place i.
 pub fn header_at<'a>(
@@ -77,28 +73,6 @@ pub fn cell_agrees(c: Cell, at: usize, value: &[u64], unknown: &[u64]) -> bool
             Verdict::Accepted => true,
         }
     }
-}
-
-// The word behind the first `count` of 320 cells, or 14 if the cells and their arenas disagree.
-pub fn check_cells(cells: [Cell; 320], count: usize, value: &[u64], unknown: &[u64]) -> PlaceAnswer
-    ensures { λ r. ⌜ placeAnswer r
-        ≡ after (checkCells (lentBy (value .entry) (unknown .entry)) cells count) (given (wordBehind (take count cells))) ⌝ }
-{
-    if (320 < count) | (value.len() != unknown.len()) {
-        return PlaceAnswer::Refused(Refusal::BadStore);
-    }
-    let mut at = 0;
-    let mut i = 0;
-    while i < count {
-        let c = cells[i];
-        if !cell_agrees(c, at, value, unknown) {
-            return PlaceAnswer::Refused(Refusal::BadStore);
-        }
-        let h = c.header;
-        at += word_count(h.width);
-        i += 1;
-    }
-    PlaceAnswer::At(at)
 }
 
 // Copies the first n words of two planes into the arenas, from word `at` on: the end part of each arena is lent to the copying function.

@@ -5,9 +5,8 @@ use Rattle.bit.specs.declared.LogicBit.the-variants.{Zero, X}
 use Rattle.refusal.specs.Outcome.{Outcome}
 use Rattle.words.specs.Vector.{tabulate, bitAt}
 use Rattle.words.specs.Planes.{Planes, stored}
-use Rattle.value.specs.Checks.{maxWidth}
+use Rattle.value.specs.Checks.{maxWidth, plain, written}
 use Rattle.value.specs.declared.Header.{Header}
-use Rattle.value.specs.Checks.{plain, written}
 
 -- constructors clamp larger widths
 abbrev pub clamped : ℕ → ℕ

@@ -25,8 +25,8 @@ pub record LentMemory : Type 0 where
   pub scratch : Planes
 
 -- by the references
-abbrev pub lentTo : (av au sv su : RefT (List ℕ)) → LentMemory
-lentTo av au sv su = record { arenas = lentBy av au; scratch = lentBy sv su }
+abbrev pub lentMemoryBy : (av au sv su : RefT (List ℕ)) → LentMemory
+lentMemoryBy av au sv su = record { arenas = lentBy av au; scratch = lentBy sv su }
 
 -- the cells that a planned step names, among those of f
 abbrev pub operandsOf : PlannedStep → Fields → Operands

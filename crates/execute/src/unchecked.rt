@@ -34,7 +34,7 @@ ghost use Rattle.reduce_words.specs.Fold.{truthBit};
 ghost use Rattle.ops.specs.Ops.{armsRefused, opHeader, answerBit, opBits};
 ghost use Rattle.cells.specs.Cells.{cellAgrees, putPlanes};
 ghost use Rattle.cells.specs.Places.{fieldsBy};
-ghost use Rattle.execute.specs.Executed.{opCells, lentTo, Executable, executed};
+ghost use Rattle.execute.specs.Executed.{opCells, lentMemoryBy, Executable, executed};
 
 // Copies the words of a plane into another of the same length.
 fn copy_words(from: &[u64], to: &mut [u64])
@@ -208,10 +208,10 @@ pub fn execute<'a>(
     sv: &mut [u64],
     su: &mut [u64],
 )
-    requires { ⌜ Executable p (fieldsBy starts widths signs fills) (lentTo av au sv su) ⌝ }
-    ensures { λ _. ⌜ lentTo (av .exit) (au .exit) (sv .exit) (su .exit)
+    requires { ⌜ Executable p (fieldsBy starts widths signs fills) (lentMemoryBy av au sv su) ⌝ }
+    ensures { λ _. ⌜ lentMemoryBy (av .exit) (au .exit) (sv .exit) (su .exit)
         ≡ executed p (fieldsBy (starts .entry) (widths .entry) (signs .entry) (fills .entry))
-        (lentTo (av .entry) (au .entry) (sv .entry) (su .entry)) ⌝ }
+        (lentMemoryBy (av .entry) (au .entry) (sv .entry) (su .entry)) ⌝ }
 {
     let o = Operands {
         a: cell_at(p.a, starts, widths, signs, fills),

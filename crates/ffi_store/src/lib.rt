@@ -3,7 +3,7 @@
 use ops::OpAnswer;
 use ops::Step;
 use ops::op_of;
-use store::unchecked::store_of;
+use store::store_of;
 use store_abi::CellResult;
 use store_abi::settle;
 use value::Header;

@@ -156,8 +156,8 @@ pub record Alike (r : Room) (A B : List Cell) (ss : List Step) : Type 0 where
   pub ending : machineRun r B ss .ending ≡ machineRun r A ss .ending
   pub kept : AllKeep ss → Cellwise Keeps (machineRun r A ss .cells) (machineRun r B ss .cells)
 
--- so do those from any two lists of cells, each of the first with as many bits as its header says, of which the second has the headers of the first and
--- keeps its known bits
+-- so do those from any two lists of cells, each of the first with as many bits as its header says, of which the second has the headers of the
+-- first and keeps its known bits
 abbrev pub KnownKept : Type 0
 KnownKept = (r : Room) (A B : List Cell) (ss : List Step) → AllSound A → Cellwise Keeps A B → Alike r A B ss
 

@@ -66,8 +66,8 @@ abbrev pub checkRoom : Room → ℕ → ℕ → Answer Unit
 checkRoom r n w = cond (ltb (r .arena - n) (wordCount w)) (refused 13) (given tt)
 
 -- 12, what the check of its vector says, then 13, for an input of width w behind n cells that take k words
-abbrev pub checkBehind : Room → (n k : ℕ) → Answer Unit → ℕ → Answer Unit
-checkBehind r n k checked w = after (checkCount n) (after checked (checkRoom r k w))
+abbrev pub checkInputBehind : Room → (n k : ℕ) → Answer Unit → ℕ → Answer Unit
+checkInputBehind r n k checked w = after (checkCount n) (after checked (checkRoom r k w))
 
 -- 13, a scratch plane has fewer words than a cell of width w takes
 abbrev pub checkScratch : Room → ℕ → Answer Unit

@@ -7,9 +7,8 @@ use lib.Dec.{T}
 use lib.ListN.{length}
 use Rattle.words.specs.Planes.{Planes, Plane, valuePlane, unknownPlane, planesOf}
 use Rattle.words.proofs.Planes.{length-tabulate, value-plane, unknown-plane}
-use Rattle.value.specs.Checks.{maxWidth}
+use Rattle.value.specs.Checks.{maxWidth, vector}
 use Rattle.value.specs.declared.Header.{Header}
-use Rattle.value.specs.Checks.{vector}
 use Rattle.value.proofs.Checks.{Sound}
 use Rattle.ops.specs.declared.Op.{Op}
 use Rattle.ops.specs.declared.Family.{Family}

@@ -1,13 +1,10 @@
 -- What the machine reads of a step's operands are the headers of the cells that it names.
 --     arms-named, header-named     an operand that the op does not use does not matter
 --     header-read                  the header at a place below n, among the first n
-use mathlib.Core.Path.{_≡_, ap, _∙_}
+use mathlib.Core.Path.{_≡_, ap}
 use mathlib.Core.Bool.{Bool}
 use mathlib.Core.List.{List, []}
-use Prim.Native.Nat.{ℕ, _≤_, _<_}
-use native.Mathlib.Omega.{arith}
-use lib.ListN.{take}
-use lib.Seq.{getD-take}
+use Prim.Native.Nat.{ℕ, _<_}
 use Rattle.words.specs.Vector.{tabulate}
 use Rattle.words.proofs.Planes.{getD-tabulate}
 use Rattle.value.specs.declared.Header.{Header}
@@ -32,6 +29,5 @@ module _ (hs : List Header) where
       ≡ opHeader (step .op) (headerAt hs (named step .a)) (headerAt hs (named step .b)) (headerAt hs (named step .c))
   header-named step = ap (λ (v : Vector). v .header) (unread bare (step .a) (step .b) (step .c) 0 (familyOf (step .op)) .1)
 
-pub header-read : (w : List ℕ) (s f : List Bool) (n i : ℕ) → i < n → n ≤ 320 → headerAt (take n (tabulate 320 (headerOf w s f))) i ≡ headerOf w s f i
-header-read w s f n i h l =
-    getD-take n (tabulate 320 (headerOf w s f)) i (plain 0) h ∙ getD-tabulate 320 (headerOf w s f) i (plain 0) (omega arith)
+pub header-read : (w : List ℕ) (s f : List Bool) (n i : ℕ) → i < n → headerAt (tabulate n (headerOf w s f)) i ≡ headerOf w s f i
+header-read w s f n i h = getD-tabulate n (headerOf w s f) i (plain 0) h

@@ -15,7 +15,7 @@ ghost use mathlib.Core.Path.{_≡_};
 ghost use Prim.Native.Nat.{_≤_};
 ghost use Rattle.refusal.specs.Outcome.{after, verdict};
 ghost use Rattle.refusal.specs.Outcome.Answer.{given};
-ghost use Rattle.machine.specs.Machine.{wordsTaken, checkBehind, checkStep};
+ghost use Rattle.machine.specs.Machine.{wordsTaken, checkInputBehind, checkStep};
 ghost use Rattle.cells.specs.Cells.{placeAnswer};
 ghost use Rattle.cells.specs.Places.{headersBy};
 ghost use Rattle.plan.specs.Planned.{named, planned, planAnswer};
@@ -55,7 +55,7 @@ pub fn plan_input(
 ) -> PlaceAnswer
     requires { ⌜ next ≤ room .arena ⌝ }
     ensures { λ r. ⌜ placeAnswer r
-        ≡ after (checkBehind room count next (verdict checked) width) (given next) ⌝ }
+        ≡ after (checkInputBehind room count next (verdict checked) width) (given next) ⌝ }
 {
     if 320 <= count {
         return PlaceAnswer::Refused(Refusal::StoreFull);

@@ -9,9 +9,8 @@ use Rattle.bit.specs.declared.LogicBit.{LogicBit}
 use Rattle.refusal.specs.Outcome.{Outcome, refuse}
 use Rattle.words.specs.Vector.{tabulate, bitAt}
 use Rattle.words.specs.Planes.{Planes, stored}
-use Rattle.value.specs.Checks.{maxWidth}
+use Rattle.value.specs.Checks.{maxWidth, plain, written}
 use Rattle.value.specs.declared.Header.{Header}
-use Rattle.value.specs.Checks.{plain, written}
 use Rattle.real.specs.declared.Scaled.{Scaled}
 
 -- ---- the nearest whole number (IEEE 1800-2017, 6.12.2)

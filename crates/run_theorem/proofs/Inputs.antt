@@ -14,7 +14,7 @@ use Rattle.words.specs.Planes.{Planes, planesOf}
 use Rattle.value.specs.declared.Header.{Header}
 use Rattle.value.specs.Checks.{Vector, vector}
 use Rattle.machine.specs.declared.Room.{Room}
-use Rattle.machine.specs.Machine.{Cell, holding, headersOf, wordsTaken, checkBehind, inputCells}
+use Rattle.machine.specs.Machine.{Cell, holding, headersOf, wordsTaken, checkInputBehind, inputCells}
 use Rattle.knownness.specs.Knownness.{AllSound}
 use Rattle.knownness.proofs.Machine.{headers-more}
 use Rattle.store.specs.Store.{State, Holds, roomOf, appended, checkInput}
@@ -25,7 +25,7 @@ use Rattle.store.proofs.Inputs.{input-check, input-holds}
 use Rattle.load.specs.Inputs.{addListed, afterInput, addInputs}
 
 abbrev checkFirst : Room → List Header → Header → Answer Unit
-checkFirst r hs h = checkBehind r (length hs) (wordsTaken hs) (checkHeader h) (h .width)
+checkFirst r hs h = checkInputBehind r (length hs) (wordsTaken hs) (checkHeader h) (h .width)
 
 abbrev pub Accepts : Room → List Header → List Header → Type 0
 Accepts r hs [] = Unit {0}

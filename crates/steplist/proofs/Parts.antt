@@ -31,11 +31,10 @@ use Rattle.value.specs.Checks.{Vector}
 use Rattle.ops.specs.declared.Step.{Step}
 use Rattle.ops.specs.Ops.{noStep}
 use Rattle.steplist.specs.OpLine.{nameLine, choiceLine, opLine, largest}
-use Rattle.steplist.specs.Answers.{opIn}
+use Rattle.steplist.specs.Answers.{opIn, inputIn, noInput, inputsIn, stepsIn, manyAt}
 use Rattle.steplist.specs.declared.OpRead.{OpRead}
 use Rattle.steplist.proofs.Names.{name-exact, op-got}
 use Rattle.steplist.specs.Listing.{StepList, Kind, unsigned, allKinds, kindName, kindHeader, widthKey, kindKey, input, aKey, bKey, cKey, numbers, step, inputsKey, stepsKey, list, readToEnd, whole}
-use Rattle.steplist.specs.Answers.{inputIn, noInput, inputsIn, stepsIn, manyAt}
 use Rattle.steplist.specs.declared.Input.{Input}
 
 -- ---- an input

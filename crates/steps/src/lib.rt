@@ -6,7 +6,7 @@ use refusal::Refusal;
 use refusal::Verdict;
 use run_lines::unchecked::put_refused;
 use store::Store;
-use store::unchecked::store_of;
+use store::store_of;
 use unchecked::run_steps;
 ghost use mathlib.Core.Path.{_≡_};
 ghost use Rattle.words.specs.Planes.{lentBy};

@@ -16,7 +16,7 @@ use Rattle.value.specs.declared.Header.{Header}
 use Rattle.value.specs.Checks.{Vector, vector, checkVector}
 use Rattle.value.proofs.Checks.{Sound, vector-accepted}
 use Rattle.machine.specs.Machine as machine
-use Rattle.machine.specs.Machine.{checkBehind, holding, headersOf, wordsTaken, checkCount, checkRoom}
+use Rattle.machine.specs.Machine.{checkInputBehind, holding, headersOf, wordsTaken, checkCount, checkRoom}
 use Rattle.cells.specs.Cells.{checkCells}
 use Rattle.cells.proofs.Answers.{after-given, count-few, room-left}
 use Rattle.cells.proofs.Agreed.{headers-count, next-within, cells-accepted}
@@ -61,12 +61,12 @@ module _ (s : State) (cs : List machine.Cell) (v : Vector) (holds : Holds s cs) 
       (subst (λ (w : ℕ). Plane w (unknownPlane (v .bits))) e (unknown-plane (v .bits)))
 
   pub input-check : (scratch : Planes) → checkInput s (v .header) (planesOf (v .bits))
-      ≡ checkBehind (roomOf (s .arenas) scratch) (length (headersOf cs)) (wordsTaken (headersOf cs)) (checkHeader (v .header)) (v .header .width)
+      ≡ checkInputBehind (roomOf (s .arenas) scratch) (length (headersOf cs)) (wordsTaken (headersOf cs)) (checkHeader (v .header)) (v .header .width)
   unfolding checkCells
   input-check scratch =
       simp (holds .agreed)
       (ap₂ (λ (hs : List Header) (x : Answer Unit).
-      checkBehind (roomOf (s .arenas) scratch) (length hs) (wordsTaken hs) x (v .header .width))
+      checkInputBehind (roomOf (s .arenas) scratch) (length hs) (wordsTaken hs) x (v .header .width))
       (holds-headers s cs holds) header-check)
 
   pub input-holds : (scratch : Planes) → checkInput s (v .header) (planesOf (v .bits)) ≡ given tt

@@ -17,7 +17,7 @@ use Rattle.value.specs.declared.Header.{Header}
 use Rattle.value.specs.Checks.{Vector, vector, checkVector}
 use Rattle.ops.specs.declared.Step.{Step}
 use Rattle.ops.specs.Ops.{armsRefused, opVector}
-use Rattle.machine.specs.Machine.{holding, checkCount, checkBehind, checkStep}
+use Rattle.machine.specs.Machine.{holding, checkCount, checkInputBehind, checkStep}
 use Rattle.cells.specs.declared.Cell.{Cell}
 use Rattle.cells.specs.declared.Fields.{Fields}
 use Rattle.cells.specs.Cells.{cellVector, cellAgrees, checkCells, putPlanes}
@@ -54,7 +54,7 @@ pub store-refused : (s : State) (k : ℕ) → checkStore s ≡ refused k
 store-refused s k e = (
   λ h p.
       sym (ap (λ (x : Answer Unit). orRefuse
-      (after x (checkBehind (roomOf (s .arenas) noScratch) (length (storeHeaders (s .store))) (nextWord (s .store)) (checkVector h p) (h .width)))
+      (after x (checkInputBehind (roomOf (s .arenas) noScratch) (length (storeHeaders (s .store))) (nextWord (s .store)) (checkVector h p) (h .width)))
       s (outcome (given (s .store .count)) (appended (holding (vector h p)) s))) e),
   λ scratch step.
       let m = memory s scratch in
@@ -73,7 +73,7 @@ module _ (s : State) (h : Header) (p : Planes) (places : length (s .store .cells
   next = nextWord (s .store)
 
   abbrev behind : ℕ → Answer Unit
-  behind n = checkBehind (roomOf (s .arenas) noScratch) n next (checkVector h p) (h .width)
+  behind n = checkInputBehind (roomOf (s .arenas) noScratch) n next (checkVector h p) (h .width)
 
   abbrev new : Planes
   new = putPlanes next (planesOf (vectorOf (h .width) p)) (s .arenas)

@@ -14,7 +14,7 @@ use Rattle.value.specs.declared.Header.{Header}
 use Rattle.value.specs.Checks.{vector, checkVector}
 use Rattle.machine.specs.declared.Room.{Room}
 use Rattle.machine.specs.Machine as machine
-use Rattle.machine.specs.Machine.{holding, checkBehind}
+use Rattle.machine.specs.Machine.{holding, checkInputBehind}
 use Rattle.cells.specs.declared.Cell.{Cell}
 use Rattle.cells.specs.declared.Fields.{Fields}
 use Rattle.cells.specs.Cells.{cellVector, cellHeaders, wordBehind, agree, checkCells, putPlanes}
@@ -103,7 +103,7 @@ noScratch = lent [] []
 abbrev pub checkInput : State → Header → Planes → Answer Unit
 checkInput s h p =
     after (checkStore s)
-    (checkBehind (roomOf (s .arenas) noScratch) (length (storeHeaders (s .store))) (nextWord (s .store)) (checkVector h p) (h .width))
+    (checkInputBehind (roomOf (s .arenas) noScratch) (length (storeHeaders (s .store))) (nextWord (s .store)) (checkVector h p) (h .width))
 
 -- the input is the next cell, and the answer is that cell's number
 abbrev pub addInput : State → Header → Planes → Outcome ℕ State

@@ -8,7 +8,7 @@ use Rattle.refusal.specs.Outcome.Answer.{given, refused}
 use Rattle.words.specs.Planes.{Planes, planesOf, vectorOf}
 use Rattle.value.specs.declared.Header.{Header}
 use Rattle.value.specs.Checks.{checkVector}
-use Rattle.machine.specs.Machine.{checkBehind}
+use Rattle.machine.specs.Machine.{checkInputBehind}
 use Rattle.cells.specs.declared.Fields.{Fields}
 use Rattle.cells.specs.Cells.{putPlanes}
 use Rattle.store.specs.declared.Store.{Store}
@@ -24,7 +24,7 @@ pub record Laid (f : Fields) (n k : ℕ) (a : Planes) : Type 0 where
 -- 12, then 1 to 4 for the input, then 13, where n cells take the first k words; else the input's words stand behind those
 abbrev pub takeInput : (n k : ℕ) → Header → Planes → Planes → Outcome ℕ Planes
 takeInput n k h p arenas =
-    orRefuse (checkBehind (roomOf arenas noScratch) n k (checkVector h p) (h .width)) arenas
+    orRefuse (checkInputBehind (roomOf arenas noScratch) n k (checkVector h p) (h .width)) arenas
     (outcome (given k) (putPlanes k (planesOf (vectorOf (h .width) p)) arenas))
 
 -- a step is refused, or its cell is added behind n others

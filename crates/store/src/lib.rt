@@ -1,11 +1,13 @@
 // The cell store: at most 320 vectors, numbered from 0, whose words lie one behind the other in two lent arenas. The store goes in by
 // value and comes back by value, inside the answer.
 use cells::Cell;
+use cells::Fields;
 use cells::PlaceAnswer;
-use cells::unchecked::check_cells;
+use cells::check_cells;
+use cells::no_fields;
+use cells::unchecked::cell_at;
 use ops::Step;
 use refusal::Refusal;
-use unchecked::fields_of;
 use unchecked::take_input;
 use unchecked::take_step;
 use unchecked::with_cell;
@@ -14,7 +16,8 @@ use value::plain_header;
 ghost use mathlib.Core.Path.{_≡_};
 ghost use Rattle.refusal.specs.Outcome.{outcome};
 ghost use Rattle.words.specs.Planes.{lentBy};
-ghost use Rattle.store.specs.Store.{stateBy, emptyStore, cellAnswer, addInput};
+ghost use Rattle.cells.specs.Places.{fieldsOf};
+ghost use Rattle.store.specs.Store.{stateBy, emptyStore, storeBy, cellAnswer, addInput};
 ghost use Rattle.store.specs.Step.{memoryBy, addStep};
 
 pub mod unchecked;
@@ -140,4 +143,42 @@ impl Store {
             }
         }
     }
+}
+
+// The store that four arrays say.
+pub fn store_of<'a>(
+    count: usize,
+    starts: &'a [usize; 320],
+    widths: &'a [u32; 320],
+    signs: &'a [bool; 320],
+    fills: &'a [bool; 320],
+) -> Store
+    ensures { λ r. ⌜ r ≡ storeBy count (starts .entry) (widths .entry) (signs .entry) (fills .entry) ⌝ }
+{
+    let mut s = Store::new();
+    let mut i = 0;
+    while i < 320 {
+        s.cells[i] = cell_at(i, starts, widths, signs, fills);
+        i += 1;
+    }
+    s.count = count;
+    s
+}
+
+// The four arrays of a store.
+pub fn fields_of(s: Store) -> Fields
+    ensures { λ r. ⌜ r ≡ fieldsOf (s .cells) ⌝ }
+{
+    let mut f = no_fields();
+    let mut i = 0;
+    while i < 320 {
+        let c = s.cells[i];
+        let h = c.header;
+        f.starts[i] = c.start;
+        f.widths[i] = h.width;
+        f.signs[i] = h.is_signed;
+        f.fills[i] = h.is_fill;
+        i += 1;
+    }
+    f
 }

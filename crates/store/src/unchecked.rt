@@ -1,11 +1,8 @@
-// A store as four arrays and back, one cell more, and an input and a step taken where store and arenas agree.
+// A store with one cell more, and an input and a step taken where store and arenas agree.
 use crate::StepAnswer;
 use crate::Store;
 use cells::Cell;
-use cells::Fields;
 use cells::PlaceAnswer;
-use cells::no_fields;
-use cells::unchecked::cell_at;
 use cells::unchecked::copy_behind;
 use execute::unchecked::execute;
 use machine::Room;
@@ -23,48 +20,10 @@ ghost use lib.ListN.{length};
 ghost use Rattle.refusal.specs.Outcome.{outcome};
 ghost use Rattle.words.specs.Planes.{lentBy};
 ghost use Rattle.cells.specs.Cells.{placeAnswer};
-ghost use Rattle.cells.specs.Places.{fieldsBy, fieldsOf};
+ghost use Rattle.cells.specs.Places.{fieldsBy};
 ghost use Rattle.store.specs.Store.{storeBy, withCell};
 ghost use Rattle.store.specs.Step.{memoryBy, addStep};
 ghost use Rattle.store.specs.Taken.{Laid, takeInput, takenAnswer, takenStore};
-
-// The store that four arrays say.
-pub fn store_of<'a>(
-    count: usize,
-    starts: &'a [usize; 320],
-    widths: &'a [u32; 320],
-    signs: &'a [bool; 320],
-    fills: &'a [bool; 320],
-) -> Store
-    ensures { λ r. ⌜ r ≡ storeBy count (starts .entry) (widths .entry) (signs .entry) (fills .entry) ⌝ }
-{
-    let mut s = Store::new();
-    let mut i = 0;
-    while i < 320 {
-        s.cells[i] = cell_at(i, starts, widths, signs, fills);
-        i += 1;
-    }
-    s.count = count;
-    s
-}
-
-// The four arrays of a store.
-pub fn fields_of(s: Store) -> Fields
-    ensures { λ r. ⌜ r ≡ fieldsOf (s .cells) ⌝ }
-{
-    let mut f = no_fields();
-    let mut i = 0;
-    while i < 320 {
-        let c = s.cells[i];
-        let h = c.header;
-        f.starts[i] = c.start;
-        f.widths[i] = h.width;
-        f.signs[i] = h.is_signed;
-        f.fills[i] = h.is_fill;
-        i += 1;
-    }
-    f
-}
 
 // The store with one cell more.
 pub fn with_cell(s: Store, c: Cell) -> Store

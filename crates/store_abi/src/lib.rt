@@ -2,7 +2,7 @@
 use store::CellAnswer;
 use store::Store;
 use store::Stored;
-use store::unchecked::fields_of;
+use store::fields_of;
 ghost use mathlib.Core.Path.{_≡_};
 ghost use Rattle.store.specs.Store.{cellAnswer};
 ghost use Rattle.cells.specs.Places.{fieldsBy, fieldsOf};

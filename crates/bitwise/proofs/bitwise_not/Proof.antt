@@ -3,9 +3,8 @@ use mathlib.Core.Path.{ap}
 use Rattle.refusal.specs.Outcome.{outcome}
 use Rattle.refusal.specs.Outcome.Answer.{given}
 use Rattle.words.specs.Planes.{Planes, lent}
-use Rattle.value.proofs.Checks.{verdict-told, exactly-accepted}
+use Rattle.value.proofs.Checks.{verdict-told, exactly-accepted, vector-accepted}
 use Rattle.value.specs.Checks.{checkOutput}
-use Rattle.value.proofs.Checks.{vector-accepted}
 use Rattle.bitwise_words.specs.Joined.{notHeader}
 use borrow.Author.Needs.{needs}
 use Rattle.bitwise.proofs.bitwise_not.Statement.{statement}

@@ -3,10 +3,9 @@ use mathlib.Core.Path.{sym, ap, ap₂, _∙_}
 use Rattle.refusal.specs.Outcome.{outcome}
 use Rattle.refusal.specs.Outcome.Answer.{given}
 use Rattle.words.specs.Planes.{Planes, lent}
-use Rattle.value.proofs.Checks.{verdict-told, exactly-accepted}
+use Rattle.value.proofs.Checks.{verdict-told, exactly-accepted, vector-accepted}
 use Rattle.value.specs.declared.Header.{Header}
 use Rattle.value.specs.Checks.{checkOutput}
-use Rattle.value.proofs.Checks.{vector-accepted}
 use borrow.Author.Needs.{needs}
 use Rattle.bitwise.proofs.join_vectors.Statement.{statement}
 use Rattle.bitwise.proofs.join_vectors.Tie as tie

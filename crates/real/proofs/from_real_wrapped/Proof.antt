@@ -6,10 +6,9 @@ use lib.Ieee.{Float}
 use Rattle.refusal.specs.Outcome.{Answer, outcome, orRefuse}
 use Rattle.refusal.specs.Outcome.Answer.{given}
 use Rattle.words.specs.Planes.{Planes, lent, planesOf}
-use Rattle.value.specs.Checks.{maxWidth}
+use Rattle.value.specs.Checks.{maxWidth, plain, checkOutput}
 use Rattle.value.proofs.Checks.{verdict-told, exactly-accepted}
 use Rattle.value.specs.declared.Header.{Header}
-use Rattle.value.specs.Checks.{plain, checkOutput}
 use Rattle.real.specs.Round.{realVector, fromReal}
 use borrow.Author.Needs.{needs}
 use Rattle.real.proofs.from_real_wrapped.Statement.{statement}

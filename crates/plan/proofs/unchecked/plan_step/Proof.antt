@@ -6,8 +6,7 @@ use Prim.Native.Nat.{ℕ, _-_, _≤_, _<_}
 use native.Mathlib.Omega.{arith}
 use borrow.Author.Tests.{lt-leb, le-leb}
 use lib.Dec.{leb, ltb}
-use lib.ListN.{length, take}
-use lib.Seq.{length-take-le}
+use lib.ListN.{length}
 use Rattle.refusal.specs.Outcome.{Answer, after}
 use Rattle.refusal.specs.Outcome.Answer.{given, refused}
 use Rattle.words.specs.Vector.{tabulate}
@@ -31,10 +30,10 @@ module _ (s : tie.Start) where
   all = headerOf (s .args .widths .now) (s .args .signs .now) (s .args .fills .now)
 
   abbrev hs : List Header
-  hs = take (s .args .count) (tabulate 320 all)
+  hs = tabulate (s .args .count) all
 
   counted : length hs ≡ s .args .count
-  counted = length-take-le (s .args .count) (tabulate 320 all) (omega (arith, length-tabulate 320 all, s .pre .0))
+  counted = length-tabulate (s .args .count) all
 
   full : 320 ≤ s .args .count → 320 ≤ length hs
   full h = omega (arith, counted)
@@ -75,7 +74,7 @@ module _ (e : tie.Else2) where
   read : (f : Step → ℕ) → f (named step) < start .args .count → all start (f (first .named .result)) ≡ headerAt (hs start) (f (named step))
   read f h =
       ap (λ (t : Step). all start (f t)) (first .named .ensures)
-      ∙ sym (header-read (start .args .widths .now) (start .args .signs .now) (start .args .fills .now) (start .args .count) (f (named step)) h (start .pre .0))
+      ∙ sym (header-read (start .args .widths .now) (start .args .signs .now) (start .args .fills .now) (start .args .count) (f (named step)) h)
 
 -- the three headers are read
 module _ (k : tie.After-header-at3) where

@@ -12,7 +12,7 @@ use Rattle.words.specs.Planes.{wordCount, Planes, lent, planesOf, vectorOf}
 use Rattle.bits.proofs.Splice.{planes-again}
 use Rattle.value.specs.Checks.{checkVector}
 use Rattle.value.proofs.Checks.{Sound, vector-accepted}
-use Rattle.machine.specs.Machine.{checkCount, checkRoom, checkBehind}
+use Rattle.machine.specs.Machine.{checkCount, checkRoom, checkInputBehind}
 use Rattle.cells.specs.Cells.{placeAnswer, putPlanes}
 use Rattle.cells.proofs.Answers.{after-given, answer-given, answer-refused, room-left}
 use Rattle.store.specs.Store.{roomOf, noScratch}
@@ -32,7 +32,7 @@ module _ (k : tie.After-plan-input) where
   arenas = lent (st .args .av .now) (st .args .au .now)
 
   abbrev check : Answer Unit
-  check = checkBehind (roomOf arenas noScratch) (st .args .count) (st .args .next) (checkVector (st .args .h) input) (st .args .h .width)
+  check = checkInputBehind (roomOf arenas noScratch) (st .args .count) (st .args .next) (checkVector (st .args .h) input) (st .args .h .width)
 
   -- what the check answers is what the call does
   abbrev by : Answer Unit → Outcome ℕ Planes
@@ -42,7 +42,7 @@ module _ (k : tie.After-plan-input) where
   told =
       let g = st .args in
       k .plan-input .ensures
-      ∙ ap (λ (x : Answer Unit). after (checkBehind (roomOf arenas noScratch) (g .count) (g .next) x (g .h .width)) (given (g .next))) (k .before .check-vector .ensures)
+      ∙ ap (λ (x : Answer Unit). after (checkInputBehind (roomOf arenas noScratch) (g .count) (g .next) x (g .h .width)) (given (g .next))) (k .before .check-vector .ensures)
 
 -- nothing was refused
 module _ (t : tie.After-known-told2) where

@@ -1,9 +1,9 @@
 -- `store::unchecked::take_step`: the plan decides, and a planned step can be executed.
 use mathlib.Core.Path.{_≡_, sym, ap, _∙_}
 use mathlib.Core.List.{List}
-use Prim.Native.Nat.{ℕ}
+use Prim.Native.Nat.{ℕ, _≤_}
 use native.Mathlib.Omega.{arith}
-use lib.ListN.{length, take}
+use lib.ListN.{length}
 use Rattle.refusal.specs.Refusals.{refusalNumber}
 use Rattle.refusal.specs.Outcome.{Answer, outcome, after}
 use Rattle.refusal.specs.Outcome.Answer.{given}
@@ -41,10 +41,13 @@ module _ (st : tie.Start) where
   hs = storeHeaders (storeOf n table)
 
   abbrev read : List Header
-  read = take n (tabulate 320 (headerOf (table .widths) (table .signs) (table .fills)))
+  read = tabulate n (headerOf (table .widths) (table .signs) (table .fills))
+
+  few : n ≤ 320
+  few = state-agrees (state (storeOf n table) (m .arenas)) (st .pre .agreed) .few
 
   same : read ≡ hs
-  same = sym (headers-places n table)
+  same = sym (headers-places n table few)
 
   abbrev check : Answer Unit
   check = checkStep (roomOf (m .arenas) (m .scratch)) hs (st .args .step)
@@ -80,7 +83,7 @@ plan-step-requires c κs =
     let st = c .before .before .before .before .before in
     let g = st .pre in
     let w = next-within (m st .arenas) (placesOf (table st)) (n st) (g .agreed) in (
-      state-agrees (state (storeOf (n st) (table st)) (m st .arenas)) (g .agreed) .few,
+      few st,
       g .words ∙ ap wordsTaken (sym (same st)),
       omega (arith, w, g .words),
     )

@@ -1,4 +1,4 @@
--- `store::unchecked::store_of`: the first i places are filled.
+-- `store::store_of`: the first i places are filled.
 use mathlib.Core.Path.{_≡_, ap, _∙_}
 use mathlib.Core.List.{List}
 use Prim.Native.Nat.{_≤_, _-_}
@@ -11,8 +11,8 @@ use Rattle.cells.specs.Places.{fields, cellOf, noCell}
 use Rattle.store.specs.declared.Store.{Store}
 use Rattle.store.specs.Store.{emptyStore}
 use borrow.Author.Needs.{needs}
-use Rattle.store.proofs.unchecked.store_of.Statement.{statement}
-use Rattle.store.proofs.unchecked.store_of.Tie as tie
+use Rattle.store.proofs.store_of.Statement.{statement}
+use Rattle.store.proofs.store_of.Tie as tie
 
 abbrev Inv-loop : tie.InvT-loop
 Inv-loop count starts widths signs fills s₀ i₀ s i = (i ≤ 320) × FilledTo noCell (cellOf (fields starts widths signs fills)) 320 i (s .cells)

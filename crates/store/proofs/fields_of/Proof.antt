@@ -1,4 +1,4 @@
--- `store::unchecked::fields_of`: the first i places of each array are written.
+-- `store::fields_of`: the first i places of each array are written.
 use mathlib.Core.Path.{_≡_, refl, sym, subst}
 use Prim.Native.Nat.{ℕ, _≤_, _-_}
 use native.Mathlib.Omega.{arith}
@@ -12,8 +12,8 @@ use Rattle.cells.specs.declared.Cell.{Cell}
 use Rattle.cells.specs.declared.Fields.{Fields}
 use Rattle.cells.specs.Places.{Whole, fields, noCell}
 use Rattle.cells.proofs.Places.{whole-none}
-use Rattle.store.proofs.unchecked.fields_of.Statement.{statement}
-use Rattle.store.proofs.unchecked.fields_of.Tie as tie
+use Rattle.store.proofs.fields_of.Statement.{statement}
+use Rattle.store.proofs.fields_of.Tie as tie
 
 abbrev cell : Store → ℕ → Cell
 cell s i = getD (s .cells) i noCell

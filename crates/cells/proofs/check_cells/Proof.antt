@@ -1,4 +1,4 @@
--- `cells::unchecked::check_cells`: what is left of the check at cell i (`Left`).
+-- `cells::check_cells`: what is left of the check at cell i (`Left`).
 use mathlib.Core.Path.{_≡_, sym, ap, _∙_}
 use mathlib.Core.Bool.{Bool, true, false}
 use mathlib.Core.List.{List}
@@ -15,8 +15,8 @@ use Rattle.cells.specs.Places.{noCell}
 use Rattle.cells.specs.Cells.{wordBehind, cellAgrees, cellsAgree, checkCells}
 use Rattle.cells.proofs.Spans.{cell-fits}
 use Rattle.cells.proofs.Walk.{Left, left-start, left-more, left-wrong, left-done, cell-wrong, all-right, misfit, fit}
-use Rattle.cells.proofs.unchecked.check_cells.Statement.{statement}
-use Rattle.cells.proofs.unchecked.check_cells.Tie as tie
+use Rattle.cells.proofs.check_cells.Statement.{statement}
+use Rattle.cells.proofs.check_cells.Tie as tie
 
 abbrev Inv-loop : tie.InvT-loop
 Inv-loop count value unknown cells at₀ i₀ at i =
