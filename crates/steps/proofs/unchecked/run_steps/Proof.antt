@@ -27,7 +27,7 @@ use Rattle.steps.proofs.Loops.{walk-more, walk-last, walk-done}
 use borrow.Author.Needs.{needs}
 use Rattle.steps.proofs.unchecked.run_steps.Statement.{statement}
 use Rattle.steps.proofs.unchecked.run_steps.Tie as tie
-use Rattle.steps.proofs.unchecked.run_steps.Proof.Turn.{held, step, Inv-loop, μ-loop, list, count, entered, first, turn, start, filled, fields, found, arenas, scratch, left, place, told, inside, at-refused, few, taken, cell, added, below, shown, laid-more, added-at, taken-at, bytes, written, short}
+use Rattle.steps.proofs.unchecked.run_steps.Proof.Turn.{held, step, Inv-loop, μ-loop, list, count, entered, first, turn, start, filled, fields, found, arenas, scratch, left, place, value-kept, unknown-kept, scratch-value-kept, scratch-unknown-kept, told, inside, at-refused, few, taken, cell, added, below, shown, laid-more, added-at, taken-at, bytes, written, short}
 
 put-refused-requires : tie.Need-put-refused-requires Inv-loop μ-loop
 put-refused-requires c κs =
@@ -90,14 +90,32 @@ put-refused-requires-2 c κs =
       omega (arith, inside a, g .0, g .1, i .short, i .long),
     )
 
+-- the step that was refused, where the pass ends
+abbrev at-end : tie.After-slice-known11 Inv-loop μ-loop → tie.After-take-step Inv-loop μ-loop
+at-end c = at-refused (c .before .before .before .before .before)
+
+same-length-2 : tie.Need-same-length-2 Inv-loop μ-loop
+same-length-2 c = value-kept (at-end c)
+
+same-length-3 : tie.Need-same-length-3 Inv-loop μ-loop
+same-length-3 c = unknown-kept (at-end c)
+
+same-length-4 : tie.Need-same-length-4 Inv-loop μ-loop
+same-length-4 c = scratch-value-kept (at-end c)
+
+same-length-5 : tie.Need-same-length-5 Inv-loop μ-loop
+same-length-5 c = scratch-unknown-kept (at-end c)
+
+same-length-6 : tie.Need-same-length-6 Inv-loop μ-loop
+same-length-6 c = c .before .before .put-refused2 .kept .0 ∙ turn (at-end c) .loop .inv .out-long
+
 returns-2 : tie.Need-returns-2 Inv-loop μ-loop
 returns-2 c =
     let w = c .before .before in
     let e = w .before in
-    let t = e .before .before in
-    let a = at-refused t in
+    let a = at-end c in
     let s = start a in
-    let r = t .before .r .given in
+    let r = e .before .before .before .r .given in
     let o = buffer (turn a .loop .out) (turn a .loop .at) in
     sym (walk-last (count s) (step (list s)) (entered s) (s .args .out .now) (found a) (turn a .loop .out) (turn a .loop .at) (place a) (turn a .loop .inv .walked) (inside a)
     (refused (refusalNumber (r .0 .0))) (left a (storeOf (filled a) (fields a))) (w .put-refused2 .last .0) (w .put-refused2 .result) (told a (Refused (r .0 .0)) (r .1)) (refusalNumber (r .0 .0)) refl
@@ -164,20 +182,19 @@ loop-again c =
     let a = taken-at q in
     let s = start a in
     let i = turn a .loop .inv in
-    let kept = a .take-step .kept .1 .1 .1 .1 .1 .1 .1 in
     let same : length (bytes q) ≡ length (turn a .loop .out) = q .put-step .kept .0 in
     let g = putFields (fields a) (filled a) (cell r) in
     let x : cell r .start + w .word-count .result ≡ cell r .start + wordCount (cell r .header .width) = ap (λ (j : ℕ). cell r .start + j) (w .word-count .ensures) in
     let called =
     ap (λ (z : Store). outcome (given (filled a)) (left a z)) (sym (with-fields (fields a) (filled a) (cell r) (i .fitted .whole) (below r))) ∙ added r in
     record {
-      value-long = kept .0 ∙ i .value-long;
-      unknown-long = kept .1 .0 ∙ i .unknown-long;
-      scratch-value-long = kept .1 .1 .0 ∙ i .scratch-value-long;
-      scratch-unknown-long = kept .1 .1 .1 .0 ∙ i .scratch-unknown-long;
+      value-long = value-kept a;
+      unknown-long = unknown-kept a;
+      scratch-value-long = scratch-value-kept a;
+      scratch-unknown-long = scratch-unknown-kept a;
       out-long = same ∙ i .out-long;
       within = omega (arith, inside a);
-      level = λ z. kept .0 ∙ i .level z ∙ sym (kept .1 .0);
+      level = λ z. value-kept a ∙ sym (i .value-long) ∙ i .level z ∙ i .unknown-long ∙ sym (unknown-kept a);
       fitted =
           fitted-more (fields a) (filled a) (turn a .loop .next) (found a .state .arenas) (i .fitted) (below r) (cell r) (shown r .thin) _ (arenas a) x (laid-more r);
       walked =
@@ -192,6 +209,25 @@ put-done-requires c κs =
     let g = l .before .before .before .before .before .before .before .before .pre .0 in
     let i = l .loop .inv in
     (omega (arith, g .0, i .within), omega (arith, g .0, g .1, i .within, i .walked .short, i .walked .long))
+
+-- the loop, where the pass ends
+abbrev looped : tie.After-slice-known13 Inv-loop μ-loop → tie.At-loop Inv-loop μ-loop
+looped c = c .before .before .before .before .before
+
+same-length-7 : tie.Need-same-length-7 Inv-loop μ-loop
+same-length-7 c = looped c .loop .inv .value-long
+
+same-length-8 : tie.Need-same-length-8 Inv-loop μ-loop
+same-length-8 c = looped c .loop .inv .unknown-long
+
+same-length-9 : tie.Need-same-length-9 Inv-loop μ-loop
+same-length-9 c = looped c .loop .inv .scratch-value-long
+
+same-length-10 : tie.Need-same-length-10 Inv-loop μ-loop
+same-length-10 c = looped c .loop .inv .scratch-unknown-long
+
+same-length-11 : tie.Need-same-length-11 Inv-loop μ-loop
+same-length-11 c = c .before .before .put-done .kept .0 ∙ looped c .loop .inv .out-long
 
 returns-3 : tie.Need-returns-3 Inv-loop μ-loop
 returns-3 c =
@@ -224,11 +260,11 @@ run-steps-spec =
     (λ c κs. search needs)
     (λ c. search needs)
     put-refused-requires-2
-    (λ c. search needs)
-    (λ c. search needs)
-    (λ c. search needs)
-    (λ c. search needs)
-    (λ c. search needs)
+    same-length-2
+    same-length-3
+    same-length-4
+    same-length-5
+    same-length-6
     returns-2
     (λ c. search needs)
     cast-put-step
@@ -247,9 +283,9 @@ run-steps-spec =
     loop-again
     cast-done
     put-done-requires
-    (λ c. search needs)
-    (λ c. search needs)
-    (λ c. search needs)
-    (λ c. search needs)
-    (λ c. search needs)
+    same-length-7
+    same-length-8
+    same-length-9
+    same-length-10
+    same-length-11
     returns-3)

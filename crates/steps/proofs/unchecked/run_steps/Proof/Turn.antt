@@ -102,6 +102,19 @@ module _ (a : tie.After-take-step Inv-loop μ-loop) where
   abbrev pub this : Step
   this = step (list start) place
 
+  -- every lent slice keeps its length
+  pub value-kept : length (arenas .value) ≡ length (start .args .av .now)
+  value-kept = a .take-step .kept .1 .1 .1 .1 .1 .1 .1 .0 ∙ turn .loop .inv .value-long
+
+  pub unknown-kept : length (arenas .unknown) ≡ length (start .args .au .now)
+  unknown-kept = a .take-step .kept .1 .1 .1 .1 .1 .1 .1 .1 .0 ∙ turn .loop .inv .unknown-long
+
+  pub scratch-value-kept : length (scratch .value) ≡ length (start .args .sv .now)
+  scratch-value-kept = a .take-step .kept .1 .1 .1 .1 .1 .1 .1 .1 .1 .0 ∙ turn .loop .inv .scratch-value-long
+
+  pub scratch-unknown-kept : length (scratch .unknown) ≡ length (start .args .su .now)
+  scratch-unknown-kept = a .take-step .kept .1 .1 .1 .1 .1 .1 .1 .1 .1 .1 .0 ∙ turn .loop .inv .scratch-unknown-long
+
   pub told : (x : StepAnswer) → a .take-step .result ≡ x → outcome (takenAnswer filled x) (left (takenStore x (storeOf filled fields))) ≡ addStep found this
   told x e = sym (ap (λ (y : StepAnswer). outcome (takenAnswer filled y) (left (takenStore y (storeOf filled fields)))) e) ∙ a .take-step .ensures
 
