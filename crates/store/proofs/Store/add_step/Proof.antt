@@ -70,6 +70,13 @@ module _ (i : tie.After-take-step) where
       ∙ i .take-step .ensures
       ∙ ap (λ (z : Store). addStep (memory (state z (all (b f) .arenas)) (scratch (b f))) (st (b f) .args .step)) (sym (same f))
 
+-- where it is refused, and where it has added a cell
+abbrev refused-at : tie.After-known-told3 → tie.After-take-step
+refused-at c = c .before .before .before .before .before .before .before .before .before .before .before
+
+abbrev added-at : tie.After-with-cell → tie.After-take-step
+added-at c = c .before .before .before .before .before .before .before .before .before .before .before .before
+
 take-step-requires : tie.Need-take-step-requires
 take-step-requires c κs =
     let f = c .before .before .before .before .before .before .before .before .before in
@@ -91,14 +98,13 @@ returns c =
 
 returns-2 : tie.Need-returns-2
 returns-2 c =
-    let i = c .before .before .before .before .before .before .before .before .before .before .before in
     let r = c .before .r2 .given in
-    told i (Refused (r .0 .0)) (r .1)
+    told (refused-at c) (Refused (r .0 .0)) (r .1)
 
 returns-3 : tie.Need-returns-3
 returns-3 c =
     let a = c .before .before in
-    let i = a .before .before .before .before .before .before .before .before .before .before in
+    let i = added-at c in
     ap (λ (s : Store). outcome (given (st (b (f i)) .args .self .count)) (left i s)) (c .with-cell .ensures)
     ∙ told i (Added (a .c .given .0 .0)) (a .c .given .1)
 
@@ -117,13 +123,13 @@ add-step-spec =
     (λ c. search needs)
     (λ c. search needs)
     returns
-    (λ c. search needs)
-    (λ c. search needs)
-    (λ c. search needs)
-    (λ c. search needs)
+    (λ c. (refused-at c) .take-step .kept .1 .1 .1 .1 .1 .1 .1 .0)
+    (λ c. (refused-at c) .take-step .kept .1 .1 .1 .1 .1 .1 .1 .1 .0)
+    (λ c. (refused-at c) .take-step .kept .1 .1 .1 .1 .1 .1 .1 .1 .1 .0)
+    (λ c. (refused-at c) .take-step .kept .1 .1 .1 .1 .1 .1 .1 .1 .1 .1 .0)
     returns-2
-    (λ c. search needs)
-    (λ c. search needs)
-    (λ c. search needs)
-    (λ c. search needs)
+    (λ c. (added-at c) .take-step .kept .1 .1 .1 .1 .1 .1 .1 .0)
+    (λ c. (added-at c) .take-step .kept .1 .1 .1 .1 .1 .1 .1 .1 .0)
+    (λ c. (added-at c) .take-step .kept .1 .1 .1 .1 .1 .1 .1 .1 .1 .0)
+    (λ c. (added-at c) .take-step .kept .1 .1 .1 .1 .1 .1 .1 .1 .1 .1 .0)
     returns-3)
