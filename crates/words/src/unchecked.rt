@@ -9,7 +9,8 @@ ghost use lib.Dec.{eqb};
 ghost use mathlib.Core.List.{_++_};
 ghost use lib.ListN.{length, getD, take, drop};
 ghost use Rattle.words.specs.Vector.{tabulate, bitAt, pack};
-ghost use Rattle.words.specs.Planes.{wordCount, planeBit, planeDigits, fromPlanes, clearAbove, masked, packed, wordAt, lentBy, planesOf};
+ghost use Rattle.words.specs.Planes.{wordCount, planeBit, planeDigits, fromPlanes, clearAbove, masked, packed, wordAt};
+ghost use Rattle.words.specs.Planes.{lentBy, planesOf};
 
 // How many bits of word k lie below `width`.
 pub fn kept(width: u32, k: usize) -> usize
