@@ -1,7 +1,7 @@
 -- `steps::unchecked::run_steps`: what is left to do is the steps from the k-th on; the cells before agree with the arenas.
 pub mod Turn
 use mathlib.Core.Path.{_≡_, refl, sym, ap, _∙_}
-use Prim.Native.Nat.{ℕ, _+_, _-_}
+use Prim.Native.Nat.{ℕ, _+_}
 use native.Mathlib.Omega.{arith}
 use lib.ListN.{length}
 use Rattle.refusal.specs.Refusals.{refusalNumber}
