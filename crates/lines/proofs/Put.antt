@@ -1,6 +1,7 @@
 -- Writing into a buffer, piece by piece.
 --     put-none, put-byte, put-put    nothing, one byte, one text behind another
 --     after, three, place-of         a writer behind one or two others, and where it ends
+--     whole         a text that fills the buffer
 --     bytes-more    one byte more of a slice
 --     number-one, number-more, length-decimal     a number of one digit, and of one digit more
 --     bits-none, bits-more, bits-place     the bits of a vector, highest first: none, one more, and where they end
@@ -18,7 +19,7 @@ use Rattle.words.specs.Vector.{at}
 use Rattle.words.specs.Planes.{fromPlanes, stored, planeBit}
 use Rattle.words.proofs.Planes.{length-tabulate}
 use Rattle.text.specs.Read.{lineEnd}
-use Rattle.text.specs.Write.{texts, decimal, numberText, bitByte, bitText}
+use Rattle.text.specs.Write.{texts, decimal, numberText, bitByte, bitText, bitDigits}
 use Rattle.text.proofs.Decimal.{decimal-digit, decimal-split}
 use Rattle.lines.specs.Buffer.{Buffer, buffer, put}
 
@@ -82,9 +83,16 @@ place-within d i v h p =
       length-take-le i d h,
     )
 
+-- a text that is as long as the buffer is then the buffer
+pub whole : (d w : List ℕ) {e : List ℕ} {j : ℕ} → length d ≡ length w → buffer e j ≡ put (buffer d 0) w → e ≡ w
+unfolding put
+whole d w h p =
+    let n : drop (0 + length w) d ≡ [] = drop-of-length-le d {i = 0 + length w} (omega arith) in
+    ap (λ (b : Buffer). b .bytes) p ∙ rw n (append-nil w)
+
 -- a line: a key, what stands behind it, LF
-pub three : (d : List ℕ) (i : ℕ) (u v w : List ℕ) {e f g : List ℕ} {j k l : ℕ} → buffer e j ≡ put (buffer d i) u → buffer f k ≡ put (buffer e j) v → buffer g l ≡ put (buffer f k) w
-    → i ≤ length d → buffer g l ≡ put (buffer d i) (u ++ (v ++ w))
+pub three : (d : List ℕ) (i : ℕ) (u v w : List ℕ) {e f g : List ℕ} {j k l : ℕ} → buffer e j ≡ put (buffer d i) u
+    → buffer f k ≡ put (buffer e j) v → buffer g l ≡ put (buffer f k) w → i ≤ length d → buffer g l ≡ put (buffer d i) (u ++ (v ++ w))
 three d i u v w p q r h = after d i (u ++ v) w (after d i u v p q h) r h ∙ ap (put (buffer d i)) (append-assoc u v w)
 
 -- ---- the bytes of a slice
@@ -130,7 +138,7 @@ unfolding texts
 length-texts [] = refl
 length-texts (b ∷ bs) = ap suc (length-texts bs)
 
-pub length-bits : (bs : List LogicBit) → length (texts bitText (reverse bs)) ≡ length bs
+pub length-bits : (bs : List LogicBit) → length (bitDigits bs) ≡ length bs
 length-bits bs = length-texts (reverse bs) ∙ length-reverse bs
 
 pub length-planes : (w : ℕ) (v u : List ℕ) → length (fromPlanes w v u) ≡ w
@@ -142,29 +150,29 @@ texts-append [] cs = refl
 texts-append (b ∷ bs) cs = ap (λ (l : List ℕ). bitByte b ∷ l) (texts-append bs cs)
 
 -- one bit lower
-bits-lower : (bs : List LogicBit) (k : ℕ) → k < length bs → texts bitText (reverse (drop k bs)) ≡ texts bitText (reverse (drop (suc k) bs)) ++ bitText (at bs k)
+bits-lower : (bs : List LogicBit) (k : ℕ) → k < length bs → bitDigits (drop k bs) ≡ bitDigits (drop (suc k) bs) ++ bitText (at bs k)
 unfolding texts
 bits-lower bs k l =
-    ap (λ (z : List LogicBit). texts bitText (reverse z)) (drop-cons bs k Zero l)
+    ap bitDigits (drop-cons bs k Zero l)
     ∙ ap (texts bitText) (reverse-cons (at bs k) (drop (suc k) bs))
     ∙ texts-append (reverse (drop (suc k) bs)) (at bs k ∷ [])
 
 module _ (d : List ℕ) (i : ℕ) (bs : List LogicBit) where
   -- the buffer with the bits from k on
   abbrev pub withBits : ℕ → Buffer
-  withBits k = put (buffer d i) (texts bitText (reverse (drop k bs)))
+  withBits k = put (buffer d i) (bitDigits (drop k bs))
 
   pub bits-none : (k : ℕ) → length bs ≤ k → buffer d i ≡ withBits k
   unfolding texts
-  bits-none k l = sym (put-none d i) ∙ ap (λ (z : List LogicBit). put (buffer d i) (texts bitText (reverse z))) (sym (drop-of-length-le bs l))
+  bits-none k l = sym (put-none d i) ∙ ap (λ (z : List LogicBit). put (buffer d i) (bitDigits z)) (sym (drop-of-length-le bs l))
 
   pub bits-place : (e : List ℕ) (j k : ℕ) → buffer e j ≡ withBits k → j ≡ i + (length bs - k)
-  bits-place e j k p = place-of d i (texts bitText (reverse (drop k bs))) p ∙ ap (λ (n : ℕ). i + n) (length-bits (drop k bs) ∙ length-drop k bs)
+  bits-place e j k p = place-of d i (bitDigits (drop k bs)) p ∙ ap (λ (n : ℕ). i + n) (length-bits (drop k bs) ∙ length-drop k bs)
 
   pub bits-more : (e : List ℕ) (j k : ℕ) → k < length bs → i + length bs ≤ length d → length e ≡ length d
       → buffer e j ≡ withBits (suc k) → buffer (set e j (bitByte (at bs k))) (j + 1) ≡ withBits k
   bits-more e j k l room long p =
-      let w : List ℕ = texts bitText (reverse (drop (suc k) bs)) in
+      let w : List ℕ = bitDigits (drop (suc k) bs) in
       let n : length w ≡ length bs - suc k = length-bits (drop (suc k) bs) ∙ length-drop (suc k) bs in
       let m : length (w ++ bitText (at bs k)) ≡ length w + 1 = length-append w (bitText (at bs k)) in
       let q = bits-place e j (suc k) p in

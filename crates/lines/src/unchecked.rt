@@ -5,7 +5,7 @@ ghost use mathlib.Core.List.{_++_};
 ghost use Prim.Native.Nat.{_+_, _≤_};
 ghost use lib.ListN.{length};
 ghost use Rattle.words.specs.Planes.{wordCount, fromPlanes};
-ghost use Rattle.text.specs.Write.{decimal, numberText, bitsText};
+ghost use Rattle.text.specs.Write.{decimal, numberText, bitDigits, bitsText};
 ghost use Rattle.lines.specs.Buffer.{buffer, put};
 
 // All of `bytes`.
@@ -22,7 +22,7 @@ pub fn put_bytes(out: &mut [u8], at: usize, bytes: &[u8]) -> usize
 }
 
 // A number in decimal.
-fn put_number(out: &mut [u8], at: usize, n: u32) -> usize
+pub fn put_number(out: &mut [u8], at: usize, n: u32) -> usize
     requires { ⌜ at + length (decimal n) ≤ length (now out) ⌝ }
     ensures { λ r. ⌜ buffer (now (out .exit)) r ≡ put (buffer (now (out .entry)) at) (decimal n) ⌝ }
 {
@@ -47,7 +47,24 @@ pub fn put_number_line(out: &mut [u8], at: usize, key: &[u8], n: u32) -> usize
     j + 1
 }
 
-// A line of `key` and the bits of a vector, highest first.
+// The bits of a vector, highest first.
+pub fn put_bits(out: &mut [u8], at: usize, width: u32, value: &[u64], unknown: &[u64]) -> usize
+    requires { ⌜ at + width ≤ length (now out) ⌝ }
+    requires { ⌜ (length (now value) ≡ wordCount width) × (length (now unknown) ≡ wordCount width) ⌝ }
+    ensures { λ r. ⌜ buffer (now (out .exit)) r
+        ≡ put (buffer (now (out .entry)) at) (bitDigits (fromPlanes width (now (value .entry)) (now (unknown .entry)))) ⌝ }
+{
+    let mut i = at;
+    let mut left = width as usize;
+    while 0 < left {
+        left -= 1;
+        out[i] = bit_byte(bits::unchecked::get(width, value, unknown, left));
+        i += 1;
+    }
+    i
+}
+
+// A line of `key` and the bits of a vector.
 pub fn put_bits_line(
     out: &mut [u8],
     at: usize,
@@ -62,13 +79,8 @@ pub fn put_bits_line(
         ≡ put (buffer (now (out .entry)) at)
         (now (key .entry) ++ bitsText (fromPlanes width (now (value .entry)) (now (unknown .entry)))) ⌝ }
 {
-    let mut i = put_bytes(out, at, key);
-    let mut left = width as usize;
-    while 0 < left {
-        left -= 1;
-        out[i] = bit_byte(bits::unchecked::get(width, value, unknown, left));
-        i += 1;
-    }
-    out[i] = 10;
-    i + 1
+    let i = put_bytes(out, at, key);
+    let end = put_bits(out, i, width, value, unknown);
+    out[end] = 10;
+    end + 1
 }

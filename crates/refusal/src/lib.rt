@@ -1,4 +1,4 @@
-// The numbered refusals of document 01, one case for each number, and the verdict of a check.
+// The numbered refusals of documents 01 and 02, one case for each number, and the verdict of a check.
 ghost use mathlib.Core.Path.{_≡_};
 ghost use Rattle.refusal.specs.Refusals.{refusalNumber};
 
@@ -26,6 +26,8 @@ pub enum Refusal {
     NoRoom,
     // 14: the arenas differ in length, or store and arenas disagree.
     BadStore,
+    // 15: the text is no sized literal, or the vector to write as one is a fill or not 1 to 4,096 bits wide.
+    BadLiteral,
 }
 
 // Whether a check, or a call that answers nothing else, refuses.
@@ -50,5 +52,6 @@ pub fn number(r: Refusal) -> u8
         Refusal::StoreFull => 12,
         Refusal::NoRoom => 13,
         Refusal::BadStore => 14,
+        Refusal::BadLiteral => 15,
     }
 }

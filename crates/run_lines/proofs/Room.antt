@@ -10,7 +10,7 @@ use Prim.Native.Nat.{ℕ, _+_, _/_, _≤_, _<_}
 use native.Mathlib.Omega.{arith}
 use lib.ListN.{length, length-append}
 use Rattle.refusal.specs.declared.Refusal.{Refusal}
-use Rattle.refusal.specs.declared.Refusal.the-variants.{TooWide, PlaneLength, BitAboveWidth, EmptyFill, OutputLength, BadFormat, BadArms, NoSuchCell, StoreFull, NoRoom, BadStore}
+use Rattle.refusal.specs.declared.Refusal.the-variants.{TooWide, PlaneLength, BitAboveWidth, EmptyFill, OutputLength, BadFormat, BadArms, NoSuchCell, StoreFull, NoRoom, BadStore, BadLiteral}
 use Rattle.refusal.specs.Refusals.{refusalNumber}
 use Rattle.bit.specs.declared.LogicBit.{LogicBit}
 use Rattle.words.proofs.Digits.{lt-or-ge}
@@ -49,6 +49,7 @@ number-small NoSuchCell = omega arith
 number-small StoreFull = omega arith
 number-small NoRoom = omega arith
 number-small BadStore = omega arith
+number-small BadLiteral = omega arith
 
 pub bits-line : (bs : List LogicBit) → length (bitsKey ++ bitsText bs) ≡ 6 + length bs
 unfolding bitsText

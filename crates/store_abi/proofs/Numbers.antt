@@ -2,7 +2,7 @@
 use Prim.Native.Nat.{_<_}
 use lib.Dec.{lit<}
 use Rattle.refusal.specs.declared.Refusal.{Refusal}
-use Rattle.refusal.specs.declared.Refusal.the-variants.{TooWide, PlaneLength, BitAboveWidth, EmptyFill, OutputLength, BadFormat, BadArms, NoSuchCell, StoreFull, NoRoom, BadStore}
+use Rattle.refusal.specs.declared.Refusal.the-variants.{TooWide, PlaneLength, BitAboveWidth, EmptyFill, OutputLength, BadFormat, BadArms, NoSuchCell, StoreFull, NoRoom, BadStore, BadLiteral}
 use Rattle.refusal.specs.Refusals.{refusalNumber}
 use Rattle.store_abi.specs.Settled.{noSuchOp}
 
@@ -19,3 +19,4 @@ below-no-such-op NoSuchCell = lit< tt
 below-no-such-op StoreFull = lit< tt
 below-no-such-op NoRoom = lit< tt
 below-no-such-op BadStore = lit< tt
+below-no-such-op BadLiteral = lit< tt

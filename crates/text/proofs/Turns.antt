@@ -13,7 +13,7 @@ use lib.Dec.{ltb, eqb}
 use lib.ListN.{length, drop, getD, drop-of-length-le}
 use lib.Seq.{drop-cons, append-snoc}
 use borrow.Author.Tests.{eq-eqb, ne-eqb, le-leb, lt-leb, eqb-true, eqb-false, ltb-true, ltb-false}
-use Rattle.bit.proofs.Tests.{and-true}
+use Rattle.bit.proofs.Tests.{and-true, or-false}
 use Rattle.bit.specs.declared.LogicBit.{LogicBit}
 use Rattle.text.specs.Read.{Got, found, broken, next, many, lineEnd, key, more, number, isBit, ofByte, bit}
 
@@ -37,10 +37,6 @@ module _ (s k : List ℕ) (i j : ℕ) where
   key-other h e q = rw (drop-cons k j 0, drop-cons s i 0, ne-eqb _ _ q)
 
 -- ---- a number
-
-or-false : (a b : Bool) → (a || b) ≡ false → (a ≡ false) × (b ≡ false)
-or-false true b h = let z : _≡_ {A = ℕ} 0 1 = cc in absurd (omega arith)
-or-false false b h = (refl, h)
 
 and-other : (a : Bool) → (a && true) ≡ false → a ≡ false
 and-other true h = h

@@ -35,5 +35,9 @@ bitByte Z = 122
 abbrev pub bitText : LogicBit → List ℕ
 bitText b = bitByte b ∷ []
 
+-- a vector, highest bit first
+abbrev pub bitDigits : List LogicBit → List ℕ
+bitDigits bs = texts bitText (reverse bs)
+
 unfoldable pub bitsText : List LogicBit → List ℕ
-bitsText bs = texts bitText (reverse bs) ++ lineEnd
+bitsText bs = bitDigits bs ++ lineEnd

@@ -130,7 +130,8 @@ put-number-returns-2 t c =
     let w = c .before .before in
     let s = w .before .before .before .before in
     let a = s .args in
-    number-more (a .out .now) (w .put-number .last .0) (a .at) (w .put-number .result) (a .n) (omega arith) (s .pre .1) (w .put-number .kept .0) (w .put-number .ensures)
+    number-more (a .out .now) (w .put-number .last .0) (a .at) (w .put-number .result) (a .n) (omega arith) (s .pre .1)
+    (w .put-number .kept .0) (w .put-number .ensures)
 
 pub +put-number-spec : {M : Type 1} → statement M
 +put-number-spec = close μ-put-number λ t. put-number-lts.spec (

@@ -19,7 +19,7 @@ put-number-requires c κs =
     let w = c .before .before .before in
     let s = w .before .before .before .before in
     let a = s .args in
-    omega (arith, length-line (a .key .now) (a .n), s .pre, place-of (a .out .now) (a .at) (a .key .now) (w .put-bytes .ensures), w .put-bytes .kept .0)
+    omega (arith, length-line (a .key .now) (a .n), s .pre, place-of _ _ _ (w .put-bytes .ensures), w .put-bytes .kept .0)
 
 -- there is room for LF
 room : (v : tie.After-put-number) → v .put-number .result < length (v .put-number .last .0)
@@ -31,9 +31,9 @@ room v =
       arith,
       length-line (a .key .now) (a .n),
       s .pre,
-      place-of (a .out .now) (a .at) (a .key .now) (w .put-bytes .ensures),
+      place-of _ _ _ (w .put-bytes .ensures),
       w .put-bytes .kept .0,
-      place-of (w .put-bytes .last .0) (w .put-bytes .result) (decimal (a .n)) (v .put-number .ensures),
+      place-of _ _ _ (v .put-number .ensures),
       v .put-number .kept .0,
     )
 
@@ -55,8 +55,8 @@ returns c =
     let w = v .before .before .before .before in
     let s = w .before .before .before .before in
     let a = s .args in
-    three (a .out .now) (a .at) (a .key .now) (decimal (a .n)) lineEnd (w .put-bytes .ensures) (v .put-number .ensures) (put-byte (v .put-number .last .0) (v .put-number .result) 10 (room v))
-    (omega (arith, s .pre))
+    three (a .out .now) (a .at) (a .key .now) (decimal (a .n)) lineEnd (w .put-bytes .ensures) (v .put-number .ensures)
+    (put-byte (v .put-number .last .0) (v .put-number .result) 10 (room v)) (omega (arith, s .pre))
 
 pub put-number-line-spec : {M : Type 1} → statement M
 put-number-line-spec =
