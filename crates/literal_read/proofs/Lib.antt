@@ -1,0 +1,4 @@
+pub mod Sizes
+pub mod Runs
+pub mod Behind
+pub mod Grammar

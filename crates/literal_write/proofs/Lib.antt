@@ -1,0 +1,4 @@
+pub mod Lengths
+pub mod Characters
+pub mod RoundTrip
+pub mod Cases
