@@ -1,5 +1,5 @@
 -- A text is accepted as a literal of x exactly where it is one.
---     before-text, behind-text      a text that is put together at its apostrophe comes apart there
+--     each-weaker   characters that pass a test pass a weaker one
 --     accepts       as stated in specs/Literal
 use mathlib.Core.Path.{_≡_, refl, sym, ap, ap₂, _∙_}
 use mathlib.Core.Bool.{Bool, true, false, not, _&&_, _||_, cond}
@@ -24,7 +24,7 @@ abbrev Free : List ℕ → Type 0
 Free s = each (λ c. not (eqb c 39)) s ≡ true
 
 module _ (r : List ℕ) where
-  pub before-text : (s : List ℕ) → Free s → beforeApostrophe (s ++ (39 ∷ r)) ≡ s
+  before-text : (s : List ℕ) → Free s → beforeApostrophe (s ++ (39 ∷ r)) ≡ s
   unfolding beforeApostrophe each
   before-text [] h = refl
   before-text (c ∷ s) h =
@@ -35,7 +35,7 @@ module _ (r : List ℕ) where
       go true e n ih = let z : _≡_ {A = ℕ} 0 1 = cc in absurd (omega arith)
       go false e n ih = rw (e, ih)
 
-  pub behind-text : (s : List ℕ) → Free s → behindApostrophe (s ++ (39 ∷ r)) ≡ r
+  behind-text : (s : List ℕ) → Free s → behindApostrophe (s ++ (39 ∷ r)) ≡ r
   unfolding behindApostrophe each
   behind-text [] h = refl
   behind-text (c ∷ s) h =
@@ -58,11 +58,11 @@ cut (c ∷ t) = go (eqb c 39) refl (cut t)
     go false e (inl h) = inl (rw e (ap (λ (x : List ℕ). c ∷ x) h))
     go false e (inr h) = inr (rw e h)
 
--- a size has no apostrophe
-each-weaker : (p q : ℕ → Bool) → ((c : ℕ) → p c ≡ true → q c ≡ true) → (t : List ℕ) → each p t ≡ true → each q t ≡ true
+-- characters that pass a test pass a weaker one
+pub each-weaker : {p q : ℕ → Bool} → ((c : ℕ) → p c ≡ true → q c ≡ true) → (t : List ℕ) → each p t ≡ true → each q t ≡ true
 unfolding each
-each-weaker p q f [] h = refl
-each-weaker p q f (c ∷ t) h = let e = and-true (p c) (each p t) h in rw (f c (e .0), each-weaker p q f t (e .1))
+each-weaker f [] h = refl
+each-weaker {p} f (c ∷ t) h = let e = and-true (p c) (each p t) h in rw (f c (e .0), each-weaker f t (e .1))
 
 apart : (p : ℕ → Bool) → p 39 ≡ false → (c : ℕ) → p c ≡ true → not (eqb c 39) ≡ true
 apart p n c h = go (eqb c 39) refl
@@ -71,6 +71,7 @@ apart p n c h = go (eqb c 39) refl
     go true e = sym (ap p (eqb-true c 39 e) ∙ n) ∙ h
     go false e = refl
 
+-- a size has no apostrophe
 size-free : (s : List ℕ) → isSize s ≡ true → Free s
 unfolding isSize isRun each
 size-free [] h = refl
@@ -79,7 +80,7 @@ size-free (c ∷ s) h =
     let f = and-true (between 48 57 c) (each (λ e. between 48 57 e || isUnderscore e) s) (r .0) in
     rw (
       apart (between 48 57) refl c (f .0),
-      each-weaker (λ e. between 48 57 e || isUnderscore e) (λ e. not (eqb e 39)) (apart (λ e. between 48 57 e || isUnderscore e) refl) s (f .1),
+      each-weaker (apart (λ e. between 48 57 e || isUnderscore e) refl) s (f .1),
     )
 
 -- ---- accepted, so a literal
@@ -133,7 +134,8 @@ accepted t x h = go (isSize (beforeApostrophe t)) refl h
     parted e h (inl k) = of-signed t (beforeApostrophe t) x e (behindApostrophe t) k h
     parted e h (inr k) = absurd (no-answer 15 x (sym (ap (signedBased (decimalNumber (beforeApostrophe t))) k) ∙ h))
 
-    go : (b : Bool) → isSize (beforeApostrophe t) ≡ b → cond b (signedBased (decimalNumber (beforeApostrophe t)) (behindApostrophe t)) (refused 15) ≡ given x → LiteralOf t x
+    go : (b : Bool) → isSize (beforeApostrophe t) ≡ b
+        → cond b (signedBased (decimalNumber (beforeApostrophe t)) (behindApostrophe t)) (refused 15) ≡ given x → LiteralOf t x
     go true e h = parted e h (cut t)
     go false e h = absurd (no-answer 15 x h)
 

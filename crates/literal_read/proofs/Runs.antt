@@ -101,7 +101,8 @@ module _ (base c : ℕ) (t : List ℕ) where
   value-off h =
       let p = and-true (not (isUnknown c)) (leb (radix base) (digitNumber c)) h in
       value-as
-      ∙ off (ltb (digitNumber c) (radix base)) (isUnknown c) (le-ltb (digitNumber c) (radix base) (leb-true (radix base) (digitNumber c) (p .1))) (not-true (isUnknown c) (p .0))
+      ∙ off (ltb (digitNumber c) (radix base)) (isUnknown c) (le-ltb (digitNumber c) (radix base) (leb-true (radix base) (digitNumber c) (p .1)))
+      (not-true (isUnknown c) (p .0))
     where
       off : (n u : Bool) → n ≡ false → u ≡ false
           → valued n (isD base) u (each (follows (radix base) (not (isD base))) t) (each isUnderscore t) ≡ false

@@ -208,11 +208,13 @@ size-begins (c ∷ t) = stop (eqb c 39) refl
 
     begins : eqb c 39 ≡ false → (x y z : Bool) → ltb c 48 ≡ x → ltb 57 c ≡ y → eqb c 48 ≡ z → literal (c ∷ t) ≡ sizeLeft 0 (c ∷ t)
     begins a true y z lo hi e =
-        parted a ∙ first-other c (beforeApostrophe t) (behindApostrophe t) (rw (lt-leb 48 c (ltb-true c 48 lo))) ∙ sym (size-other 0 c t a (or-all (not (eqb c 95))) (rw lo))
+        parted a ∙ first-other c (beforeApostrophe t) (behindApostrophe t) (rw (lt-leb 48 c (ltb-true c 48 lo)))
+        ∙ sym (size-other 0 c t a (or-all (not (eqb c 95))) (rw lo))
     begins a false true z lo hi e =
         parted a ∙ first-other c (beforeApostrophe t) (behindApostrophe t) (rw (le-leb 48 c (ltb-false c 48 lo), lt-leb c 57 (ltb-true 57 c hi)))
         ∙ sym (size-other 0 c t a (or-all (not (eqb c 95))) (rw (lo, hi)))
-    begins a false false true lo hi e = parted a ∙ first-zero c (beforeApostrophe t) (behindApostrophe t) e ∙ sym (size-other 0 c t a (or-all (not (eqb c 95))) (rw (lo, hi, e)))
+    begins a false false true lo hi e =
+        parted a ∙ first-zero c (beforeApostrophe t) (behindApostrophe t) e ∙ sym (size-other 0 c t a (or-all (not (eqb c 95))) (rw (lo, hi, e)))
     begins a false false false lo hi e =
         let l : 48 ≤ c = ltb-false c 48 lo in
         let h : c ≤ 57 = ltb-false 57 c hi in

@@ -49,6 +49,6 @@ table =
     ∷ row "8'd-6" "" ∷ row "'h837FF" "" ∷ row "4af" "" ∷ row "8'dxx" "" ∷ row "8'h_f" "" ∷ row "08'hff" "" ∷ row "0'b0" "" ∷ row "4097'b0" "" ∷ []
 
 worked : holds table ≡ true
-unfolding same rewritten holds table literal beforeApostrophe behindApostrophe isSize based signedBased isRun isLone isValue each isDigitOf digitNumber radix digitWidth
-    digits numberBy digitBit digitsBits leading decimalBits valueBits tabulate literalText texts decimalDigits decimal
+unfolding same rewritten holds table literal beforeApostrophe behindApostrophe isSize based signedBased isRun isLone isValue each isDigitOf digitNumber radix
+    digitWidth digits numberBy digitBit digitsBits leading decimalBits valueBits tabulate literalText texts decimalDigits decimal
 worked = refl

@@ -22,13 +22,9 @@ use Rattle.text.specs.Write.{texts, decimal, bitByte, bitText}
 use Rattle.text.proofs.Decimal.{decimal-digit, decimal-split}
 use Rattle.lines.proofs.Put.{length-decimal}
 use Rattle.literal_words.specs.Digits.{isUnderscore, digitNumber, digits, numberBy, decimalNumber, digitBit, digitsBits, each, isRun}
+use Rattle.literal_read.proofs.Grammar.{each-weaker}
 
 -- ---- tests
-
-each-other : {p q : ℕ → Bool} → ((c : ℕ) → p c ≡ true → q c ≡ true) → (t : List ℕ) → each p t ≡ true → each q t ≡ true
-unfolding each
-each-other f [] h = refl
-each-other {p} f (c ∷ t) h = let a = and-true (p c) (each p t) h in rw (f c (a .0)) (each-other f t (a .1))
 
 each-append : (p : ℕ → Bool) (s t : List ℕ) → each p s ≡ true → each p t ≡ true → each p (s ++ t) ≡ true
 unfolding each
@@ -38,7 +34,7 @@ each-append p (c ∷ s) t h k = let a = and-true (p c) (each p s) h in rw (a .0)
 pub run-of : (p : ℕ → Bool) (t : List ℕ) → each p t ≡ true → 0 < length t → isRun p t ≡ true
 unfolding each isRun
 run-of p [] h l = absurd (omega arith)
-run-of p (c ∷ t) h l = let a = and-true (p c) (each p t) h in rw (a .0) (each-other (λ e k. rw k) t (a .1))
+run-of p (c ∷ t) h l = let a = and-true (p c) (each p t) h in rw (a .0) (each-weaker (λ e k. rw k) t (a .1))
 
 pub no-underscore : (t : List ℕ) → each (λ c. not (isUnderscore c)) t ≡ true → digits t ≡ t
 unfolding each digits
@@ -99,7 +95,7 @@ number-again =
     (λ n h k. rw (decimal-split n h, number-append 10 digitNumber 0 (decimal (n / 10)) ((48 + n % 10) ∷ []), k, digit-again (n % 10) (omega arith)) (omega arith))
 
 pub decimal-again : (n : ℕ) → decimalNumber (decimal n) ≡ n
-decimal-again n = ap (numberBy 10 digitNumber 0) (no-underscore (decimal n) (each-other plain (decimal n) (decimal-digits n))) ∙ number-again n
+decimal-again n = ap (numberBy 10 digitNumber 0) (no-underscore (decimal n) (each-weaker plain (decimal n) (decimal-digits n))) ∙ number-again n
   where
     plain : (c : ℕ) → isDigit c ≡ true → not (isUnderscore c) ≡ true
     plain c h =

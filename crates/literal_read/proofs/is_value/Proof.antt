@@ -28,7 +28,8 @@ module _ (c : tie.After-is-unknown) where
   abbrev first : ℕ
   first = getD (start .args .s .now) (start .args .from) 0
 
-  split : isValue (start .args .base) (drop (start .args .from) (start .args .s .now)) ≡ isValue (start .args .base) (first ∷ drop (start .args .from + 1) (start .args .s .now))
+  split : let a = start .args in
+      isValue (a .base) (drop (a .from) (a .s .now)) ≡ isValue (a .base) (first ∷ drop (a .from + 1) (a .s .now))
   split = ap (isValue (start .args .base)) (rw add-one (drop-cons (start .args .s .now) (start .args .from) 0 (c .before .before .before .if1 .left)))
 
   lone : (c .before .is-decimal .result && c .is-unknown .result) ≡ (isD (start .args .base) && isUnknown first)

@@ -38,7 +38,8 @@ returns : tie.Need-returns Inv-loop μ-loop
 returns c =
     let l = at (c .before) in
     let a = l .before .before .args in
-    sym (l .loop .inv ∙ each-off (follows (a .below) (a .unknown)) (a .s .now) (l .loop .i) (within (c .before)) (sym (tested (c .before)) ∙ not-true _ (c .if1 .taken)))
+    sym (l .loop .inv
+    ∙ each-off (follows (a .below) (a .unknown)) (a .s .now) (l .loop .i) (within (c .before)) (sym (tested (c .before)) ∙ not-true _ (c .if1 .taken)))
 
 loop-again : tie.Need-loop-again Inv-loop μ-loop
 loop-again c =

@@ -24,7 +24,9 @@ returns-2 c = rw (z-first, ← c .before .before .before .is-z .ensures, c .befo
 
 returns-3 : tie.Need-returns-3
 unfolding valueNumber
-returns-3 c = c .digit-number .ensures ∙ rw (z-first, ← c .before .before .before .before .is-z .ensures, c .before .before .before .if1 .left, ← c .before .before .is-x .ensures, c .before .if2 .left)
+returns-3 c =
+    let z = c .before .before .before in
+    c .digit-number .ensures ∙ rw (z-first, ← z .before .is-z .ensures, z .if1 .left, ← c .before .before .is-x .ensures, c .before .if2 .left)
 
 pub value-number-spec : {M : Type 1} → statement M
 value-number-spec =
