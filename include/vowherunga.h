@@ -39,13 +39,14 @@ enum {
     VOWHERUNGA_REFUSAL_PLANE_LENGTH = 2,    // a plane does not have exactly the words of its width, or a real comes with words
     VOWHERUNGA_REFUSAL_BIT_ABOVE_WIDTH = 3, // a bit is set at or above the width
     VOWHERUNGA_REFUSAL_EMPTY_FILL = 4,      // a fill has width 0
-    VOWHERUNGA_REFUSAL_OUTPUT_LENGTH = 5,   // an output plane does not have exactly the words of the result
+    VOWHERUNGA_REFUSAL_OUTPUT_LENGTH = 5,   // an output plane does not have exactly the words of the result, or an output text its bytes
     VOWHERUNGA_REFUSAL_BAD_FORMAT = 6,      // the text is no step list, or it is longer than 65,536 bytes
     VOWHERUNGA_REFUSAL_BAD_ARMS = 7,        // the arms of a selection differ in width, or one of them is a fill
     VOWHERUNGA_REFUSAL_NO_SUCH_CELL = 11,   // an operand names a cell that is not filled
     VOWHERUNGA_REFUSAL_STORE_FULL = 12,     // all 320 cells of the store are filled
     VOWHERUNGA_REFUSAL_NO_ROOM = 13,        // an arena behind the last cell, or a scratch plane, has too few words for the new cell
-    VOWHERUNGA_REFUSAL_BAD_STORE = 14       // the arenas differ in length, or the store does not agree with them
+    VOWHERUNGA_REFUSAL_BAD_STORE = 14,      // the arenas differ in length, or the store does not agree with them
+    VOWHERUNGA_REFUSAL_BAD_LITERAL = 15     // the text is no sized literal, or the vector to write is a fill or not 1 to 4,096 bits wide
 };
 
 // The code of an op, with its name in a step list; never reused and never shifted.
@@ -100,13 +101,19 @@ typedef struct {
     uint64_t unknown;
 } vowherunga_word_result;
 
-// The header of the vector that was written.
+// The header of the vector that was written, or of a literal's vector.
 typedef struct {
     uint8_t refusal;
     uint32_t width;
     bool is_signed;
     bool is_fill;
 } vowherunga_header_result;
+
+// How many bytes a text has.
+typedef struct {
+    uint8_t refusal;
+    size_t length;
+} vowherunga_length_result;
 
 // The number of the new cell: the store has one cell more than that.
 typedef struct {
@@ -317,6 +324,24 @@ vowherunga_run_result vowherunga_run(const uint8_t *text, size_t text_len, uint6
                                      uint64_t *scratch_unknown, size_t scratch_unknown_len, size_t starts[VOWHERUNGA_MAX_CELLS],
                                      uint32_t widths[VOWHERUNGA_MAX_CELLS], bool signs[VOWHERUNGA_MAX_CELLS],
                                      bool fills[VOWHERUNGA_MAX_CELLS], uint8_t out[VOWHERUNGA_OUTPUT_BYTES]);
+
+// ---- Sized literals of IEEE 1800-2017, 5.7.1, such as 8'hzx: a size of 1 to 4,096, an apostrophe, an optional s, a base (b, o, d or h) and a
+// value. A text is its bytes alone, with no 0 behind them.
+
+// The header of a literal's vector, which is signed if there is an s, and no fill. Refused by 15.
+vowherunga_header_result vowherunga_literal_header(const uint8_t *text, size_t text_len);
+
+// Writes a literal's vector into planes of exactly the words of its size. Refused by 15, then by 5.
+vowherunga_header_result vowherunga_read_literal(const uint8_t *text, size_t text_len, uint64_t *ov, size_t ov_len, uint64_t *ou,
+                                                 size_t ou_len);
+
+// How long the literal of a vector is. Refused by 1, 4, then by 15 for another fill and for a width that is not 1 to 4,096.
+vowherunga_length_result vowherunga_literal_length(vowherunga_header h);
+
+// Writes a vector as a binary literal, a digit for each bit, into a text that is exactly as long; reading it gives the same vector. Refused by 1
+// to 4, 15, then by 5. The refusal's number.
+uint8_t vowherunga_write_literal(vowherunga_header h, const uint64_t *value, size_t value_len, const uint64_t *unknown, size_t unknown_len,
+                                 uint8_t *text, size_t text_len);
 
 #ifdef __cplusplus
 }

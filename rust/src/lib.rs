@@ -47,12 +47,14 @@
 //! The functions take planes by their position. [`VectorRef`] and [`PlanesMut`] hold them under their names, so that a value plane is not
 //! taken for an unknown one, and have each operator as a method.
 //!
-//! Vectors can be kept as the cells of a [`store`], and a whole list of steps on them can be run from its text ([`steps::run`]).
+//! Vectors can be read from sized literals such as `8'hzx` and written as such ([`literal`]). They can be kept as the cells of a [`store`], and a
+//! whole list of steps on them can be run from its text ([`steps::run`]).
 //!
 //! The feature `reference` adds the Rust program whose behaviour the library keeps, for comparisons; it needs that program's source.
 mod bit;
 pub mod bitwise;
 pub mod compare;
+pub mod literal;
 mod narrow;
 mod parse;
 pub mod planes;

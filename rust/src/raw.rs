@@ -1,7 +1,7 @@
-//! The exports of `ffi`, `ffi_answers` and `ffi_words`, as C sees them: a slice is a pointer and a length, a bit its code, a refusal its
-//! number (0: done). Nothing holds these declarations to the crates but the tests: they stand in their order, with their names, and
-//! tests/shell/c_header.sh compares them with the exports and with include/vowherunga.h. The exports of `ffi_store` and `ffi_run` stand in
-//! [`store`]. Public for the tests alone, which hand over what the binding's types rule out.
+//! The exports of `ffi`, `ffi_answers`, `ffi_words` and `ffi_literal`, as C sees them: a slice is a pointer and a length, a bit its code, a
+//! refusal its number (0: done). Nothing holds these declarations to the crates but the tests: they stand in their order, with their names,
+//! and tests/shell/c_header.sh compares them with the exports and with include/vowherunga.h. The exports of `ffi_store` and `ffi_run` stand
+//! in [`store`]. Public for the tests alone, which hand over what the binding's types rule out.
 use crate::{Header, Word};
 
 pub mod store;
@@ -25,6 +25,12 @@ pub struct HeaderResult {
     pub width: u32,
     pub is_signed: bool,
     pub is_fill: bool,
+}
+
+#[repr(C)]
+pub struct LengthResult {
+    pub refusal: u8,
+    pub length: usize,
 }
 
 // ffi/src/bits.rt
@@ -195,4 +201,30 @@ extern "C" {
 alike! {
     CodeOfTwo: vowherunga_is_equal_word, vowherunga_case_eq_word, vowherunga_casez_eq_word, vowherunga_casex_eq_word,
     vowherunga_wildcard_eq_word: (a: Word, b: Word) -> u8
+}
+
+// ffi_literal/src/lib.rt
+extern "C" {
+    pub fn vowherunga_literal_header(text: *const u8, text_len: usize) -> HeaderResult;
+
+    pub fn vowherunga_read_literal(
+        text: *const u8,
+        text_len: usize,
+        ov: *mut u64,
+        ov_len: usize,
+        ou: *mut u64,
+        ou_len: usize,
+    ) -> HeaderResult;
+
+    pub fn vowherunga_literal_length(h: Header) -> LengthResult;
+
+    pub fn vowherunga_write_literal(
+        h: Header,
+        value: *const u64,
+        value_len: usize,
+        unknown: *const u64,
+        unknown_len: usize,
+        text: *mut u8,
+        text_len: usize,
+    ) -> u8;
 }

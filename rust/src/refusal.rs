@@ -14,7 +14,7 @@ pub enum Refusal {
     BitAboveWidth = 3,
     /// 4: a fill of width 0.
     EmptyFill = 4,
-    /// 5: an output plane is not exactly the result's word count.
+    /// 5: an output plane is not exactly the result's word count; the text for a literal is not exactly as long as the literal.
     OutputLength = 5,
     /// 6: the step list breaks its format or its 65,536 bytes.
     BadFormat = 6,
@@ -28,10 +28,12 @@ pub enum Refusal {
     NoRoom = 13,
     /// 14: the arenas differ in length, or store and arenas disagree.
     BadStore = 14,
+    /// 15: the text is no sized literal, or the vector to write as one is a fill or not 1 to 4,096 bits wide.
+    BadLiteral = 15,
 }
 
 impl Refusal {
-    pub const ALL: [Refusal; 11] = [
+    pub const ALL: [Refusal; 12] = [
         Refusal::TooWide,
         Refusal::PlaneLength,
         Refusal::BitAboveWidth,
@@ -43,6 +45,7 @@ impl Refusal {
         Refusal::StoreFull,
         Refusal::NoRoom,
         Refusal::BadStore,
+        Refusal::BadLiteral,
     ];
 
     pub fn number(self) -> u8 {
@@ -61,13 +64,14 @@ impl Refusal {
             Refusal::PlaneLength => "a plane does not have exactly the words of its width, or a real comes with words",
             Refusal::BitAboveWidth => "a bit is set at or above the width",
             Refusal::EmptyFill => "a fill has width 0",
-            Refusal::OutputLength => "an output plane does not have exactly the words of the result",
+            Refusal::OutputLength => "an output plane does not have exactly the words of the result, or an output text its bytes",
             Refusal::BadFormat => "the text is no step list, or it is longer than 65,536 bytes",
             Refusal::BadArms => "the arms of a selection differ in width, or one of them is a fill",
             Refusal::NoSuchCell => "an operand names a cell that is not filled",
             Refusal::StoreFull => "all 320 cells of the store are filled",
             Refusal::NoRoom => "an arena behind the last cell, or a scratch plane, has too few words for the new cell",
             Refusal::BadStore => "the arenas differ in length, or the store does not agree with them",
+            Refusal::BadLiteral => "the text is no sized literal, or the vector to write as one is a fill or not 1 to 4,096 bits wide",
         }
     }
 

@@ -68,6 +68,7 @@ fn refusals() {
         "cells of the store are filled",
         "too few words",
         "arenas differ",
+        "sized literal",
     ];
     for (refusal, words) in Refusal::ALL.into_iter().zip(told) {
         let of = Refusal::ALL.into_iter().filter(|r| r.to_string().contains(words));

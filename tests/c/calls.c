@@ -109,11 +109,37 @@ static void runs(void)
     EXPECT(r.count == 0 && r.refusal == VOWHERUNGA_REFUSAL_BAD_FORMAT && r.step == 0 && signs[0] && signs[1]);
 }
 
+// 8'Shzx read, and written again; a text that is no literal, a text too short, and a vector that has no literal.
+static void literals(void)
+{
+    const uint8_t *source = (const uint8_t *)"8'Shzx";
+    uint64_t v[2] = {7, 7}, u[2] = {9, 9};
+    uint8_t text[13] = "............";
+    vowherunga_header_result h = vowherunga_literal_header(source, 6);
+    EXPECT(h.refusal == 0 && h.width == 8 && h.is_signed && !h.is_fill);
+    h = vowherunga_read_literal(source, 6, v, 1, u, 1);
+    EXPECT(h.refusal == 0 && h.width == 8 && h.is_signed && !h.is_fill);
+    EXPECT(v[0] == 0xf0 && u[0] == 0xff && v[1] == 7 && u[1] == 9);
+    h = vowherunga_read_literal(source, 6, v, 2, u, 1);
+    EXPECT(h.refusal == VOWHERUNGA_REFUSAL_OUTPUT_LENGTH && h.width == 0 && !h.is_signed);
+    h = vowherunga_read_literal(source, 4, v, 1, u, 1);
+    EXPECT(h.refusal == VOWHERUNGA_REFUSAL_BAD_LITERAL && v[0] == 0xf0 && u[0] == 0xff);
+
+    const vowherunga_header signed_eight = {8, true, false}, fill = {8, false, true};
+    vowherunga_length_result n = vowherunga_literal_length(signed_eight);
+    EXPECT(n.refusal == 0 && n.length == 12);
+    n = vowherunga_literal_length(fill);
+    EXPECT(n.refusal == VOWHERUNGA_REFUSAL_BAD_LITERAL && n.length == 0);
+    EXPECT(vowherunga_write_literal(signed_eight, v, 1, u, 1, text, 11) == VOWHERUNGA_REFUSAL_OUTPUT_LENGTH && text[0] == '.');
+    EXPECT(vowherunga_write_literal(signed_eight, v, 1, u, 1, text, 12) == 0 && strcmp((const char *)text, "8'sbzzzzxxxx") == 0);
+}
+
 int main(void)
 {
     planes();
     operators();
     store();
     runs();
+    literals();
     return failed;
 }

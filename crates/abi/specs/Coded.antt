@@ -8,7 +8,6 @@ use Rattle.bit.specs.Rules.{code}
 use Rattle.refusal.specs.Outcome.{Answer, Outcome}
 use Rattle.refusal.specs.Outcome.Answer.{given, refused}
 use Rattle.words.specs.declared.Word.{Word}
-use Rattle.words.specs.Planes.{Planes}
 use Rattle.value.specs.declared.Header.{Header}
 use Rattle.value.specs.declared.Operand.{Operand}
 use Rattle.value.specs.declared.Operand.the-variants as operand
@@ -17,6 +16,7 @@ use Rattle.reduce_words.specs.Fold.{truthBit}
 use Rattle.abi.specs.declared.BitResult.{BitResult}
 use Rattle.abi.specs.declared.WordResult.{WordResult}
 use Rattle.abi.specs.declared.HeaderResult.{HeaderResult}
+use Rattle.abi.specs.declared.LengthResult.{LengthResult}
 
 abbrev pub codedDone : Answer Unit → ℕ
 codedDone (given u) = 0
@@ -44,20 +44,24 @@ abbrev pub codedTruth : Answer Truth → BitResult
 codedTruth (given t) = record { refusal = 0; bit = code (truthBit t) }
 codedTruth (refused n) = record { refusal = n; bit = 0 }
 
+abbrev pub codedLength : Answer ℕ → LengthResult
+codedLength (given n) = record { refusal = 0; length = n }
+codedLength (refused n) = record { refusal = n; length = 0 }
+
 -- an operand is passed as its mark, a header and a real, of which one counts
 abbrev pub operandOf : Bool → Header → Float → Operand
 operandOf isReal h x = cond isReal (operand.Real x) (operand.Vector h)
 
--- a coded answer, and the lent planes as the call leaves them
-pub record Coded (C : Type 0) : Type 0 where
+-- a coded answer, and what is lent for writing, planes or a text, as the call leaves it
+pub record Coded (C S : Type 0) : Type 0 where
   pub answer : C
-  pub left : Planes
+  pub left : S
 
-module _ {C : Type 0} where
-  abbrev pub coded : C → Planes → Coded C
-  coded c p = record { answer = c; left = p }
+module _ {C S : Type 0} where
+  abbrev pub coded : C → S → Coded C S
+  coded c s = record { answer = c; left = s }
 
-module _ {A C : Type 0} where
+module _ {A C S : Type 0} where
   -- an outcome with its answer coded
-  abbrev pub codedOutcome : (Answer A → C) → Outcome A Planes → Coded C
+  abbrev pub codedOutcome : (Answer A → C) → Outcome A S → Coded C S
   codedOutcome f o = coded (f (o .answer)) (o .left)

@@ -1,6 +1,9 @@
 // The answers of the entries as numbers, for C and Rust. A refusal is its number, and 0 is done; a bit is its code, a word of both planes
 // two numbers; the other fields of a refused call are 0.
 use insert::ChangeAnswer;
+use literal_read::HeaderAnswer;
+use literal_write::LengthAnswer;
+use literal_write::TextAnswer;
 use refusal::Verdict;
 use truth::TruthAnswer;
 use value::BitAnswer;
@@ -13,7 +16,9 @@ ghost use Rattle.refusal.specs.Outcome.{verdict};
 ghost use Rattle.value.specs.Answers.{bitAnswer, wordAnswer, vectorAnswer};
 ghost use Rattle.insert.specs.Insert.{changeAnswer};
 ghost use Rattle.truth.specs.Truth.{truthAnswer};
-ghost use Rattle.abi.specs.Coded.{codedDone, codedBit, codedWord, codedHeader, codedChange, codedTruth, operandOf};
+ghost use Rattle.literal_read.specs.Answers.{headerAnswer};
+ghost use Rattle.literal_write.specs.Answers.{lengthAnswer, textAnswer};
+ghost use Rattle.abi.specs.Coded.{codedDone, codedBit, codedWord, codedHeader, codedChange, codedTruth, codedLength, operandOf};
 
 #[repr(C)]
 pub struct BitResult {
@@ -34,6 +39,12 @@ pub struct HeaderResult {
     pub width: u32,
     pub is_signed: bool,
     pub is_fill: bool,
+}
+
+#[repr(C)]
+pub struct LengthResult {
+    pub refusal: u8,
+    pub length: usize,
 }
 
 // 0 where the call was done.
@@ -129,6 +140,42 @@ pub fn truth_result(a: TruthAnswer) -> BitResult
             refusal: refusal::number(r),
             bit: 0,
         },
+    }
+}
+
+// The header of a literal's vector.
+pub fn literal_header_result(a: HeaderAnswer) -> HeaderResult
+    ensures { λ r. ⌜ r ≡ codedHeader (headerAnswer a) ⌝ }
+{
+    match a {
+        HeaderAnswer::Header(h) => header_result(VectorAnswer::Vector(h)),
+        HeaderAnswer::Refused(r) => header_result(VectorAnswer::Refused(r)),
+    }
+}
+
+// The length of a literal.
+pub fn length_result(a: LengthAnswer) -> LengthResult
+    ensures { λ r. ⌜ r ≡ codedLength (lengthAnswer a) ⌝ }
+{
+    match a {
+        LengthAnswer::Length(n) => LengthResult {
+            refusal: 0,
+            length: n,
+        },
+        LengthAnswer::Refused(r) => LengthResult {
+            refusal: refusal::number(r),
+            length: 0,
+        },
+    }
+}
+
+// 0 where a text was written.
+pub fn text_done(a: TextAnswer) -> u8
+    ensures { λ r. ⌜ r ≡ codedDone (textAnswer a) ⌝ }
+{
+    match a {
+        TextAnswer::Written => 0,
+        TextAnswer::Refused(r) => refusal::number(r),
     }
 }
 

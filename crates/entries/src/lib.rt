@@ -1,5 +1,5 @@
-// The entries of document 01 and their types in one list, which `fourstate` sorts by module. A crate that uses the crate `bit` cannot have
-// a module `bit`, so the list and the modules are two crates.
+// The entries of documents 01 and 02 and their types in one list, which `fourstate` sorts by module. A crate that uses the crate `bit`
+// cannot have a module `bit`, so the list and the modules are two crates.
 pub use bit::LogicBit;
 pub use bit::and;
 pub use bit::from_code;
@@ -24,6 +24,13 @@ pub use constructors::new;
 pub use constructors::zero;
 pub use insert::ChangeAnswer;
 pub use insert::splice_bits64;
+pub use literal_read::HeaderAnswer;
+pub use literal_read::literal_header;
+pub use literal_read::read_literal;
+pub use literal_write::LengthAnswer;
+pub use literal_write::TextAnswer;
+pub use literal_write::literal_length;
+pub use literal_write::write_literal;
 pub use ops::Op;
 pub use ops::Step;
 pub use planes::extract64;

@@ -1,6 +1,6 @@
-// Four-state values: the public interface on one page, by the modules of document 01. An entry takes whatever it is handed, and gives its
-// result or one refusal, which leaves what it found. Contracts and the fields of types stand in the crates that `entries` names. A crate
-// that calls an entry also lists in crates.txt the crates that declare the types of its arguments and its answer.
+// Four-state values: the public interface on one page, by the modules of document 01, and `literal` for document 02. An entry takes whatever
+// it is handed, and gives its result or one refusal, which leaves what it found. Contracts and the fields of types stand in the crates that
+// `entries` names. A crate that calls an entry also lists in crates.txt the crates that declare the types of its arguments and its answer.
 
 // A four-state bit and the single-bit rules.
 pub mod bit {
@@ -122,6 +122,24 @@ pub mod compare {
     pub use entries::casex_eq;
     // Equality without the places where the right bit is unknown.
     pub use entries::wildcard_eq;
+}
+
+// Sized literals such as 8'hzx, read into lent planes and written into a lent text.
+pub mod literal {
+    // The header of a literal's vector, or the refusal.
+    pub use entries::HeaderAnswer;
+    // Whether a text is a literal, and the header of its vector.
+    pub use entries::literal_header;
+    // The vector of a literal, into planes of exactly its words.
+    pub use entries::read_literal;
+    // The length of a literal, or the refusal.
+    pub use entries::LengthAnswer;
+    // How long the literal of a vector is.
+    pub use entries::literal_length;
+    // Whether a text was written, or the refusal.
+    pub use entries::TextAnswer;
+    // A vector as a binary literal, into a text that is exactly as long.
+    pub use entries::write_literal;
 }
 
 // The cell store: vectors whose words lie one behind the other in two lent arenas.

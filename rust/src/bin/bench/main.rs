@@ -1,5 +1,5 @@
 //! The reference and the library side by side, in one run of about a minute; prints the figures of docs/PERFORMANCE.md. Words on the command
-//! line name the operators to run, all without any; the copy and the runs of step lists are always taken.
+//! line name the operators to run, all without any; the copy, the runs of step lists and the literals are always taken.
 //!
 //! reference: the operator of `Value`, which allocates its result where that is wider than 64 bits; the drop is in the time too.
 //! ours: the function over planes, every check included, into planes that are lent again for each call.
@@ -8,6 +8,7 @@
 //! Inputs are known, or mixed: half of the bits unknown. Those of comparisons, reductions and truth are such that the scan goes to the end:
 //! equal operands; all 1 or all 0 but for unknown bits; for the reduction by xor only the top bit is unknown.
 mod inputs;
+mod literals;
 mod race;
 mod runs;
 
@@ -252,11 +253,13 @@ fn main() {
     let mut copy = against_copy(&mut rng);
     let (list, store) = ([0, 64, 256], [0, 1, 256]);
     let (mut listed, mut kept) = (runs::listed(list), runs::kept(store));
+    let (named_literals, mut literals) = literals::read_and_written(&mut rng);
     for _ in 0..ROUNDS {
         rows.iter_mut().for_each(|row| row.race.round());
         copy.round();
         listed.round();
         kept.round();
+        literals.round();
     }
     if !rows.is_empty() {
         print_table(&rows, "ours");
@@ -281,4 +284,8 @@ fn main() {
         (times[2] - times[0]) / store[2] as f64,
         store[2]
     );
+    println!();
+    for (name, ns) in named_literals.iter().zip(literals.result().times) {
+        println!("{name} takes {ns:.0} ns.");
+    }
 }
