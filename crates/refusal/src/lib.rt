@@ -12,7 +12,7 @@ pub enum Refusal {
     BitAboveWidth,
     // 4: a fill of width 0.
     EmptyFill,
-    // 5: an output plane is not exactly the result's word count.
+    // 5: an output plane is not exactly the result's word count; the text for a literal is not exactly as long as the literal.
     OutputLength,
     // 6: the step list breaks its format or its 65,536 bytes.
     BadFormat,
