@@ -1,9 +1,8 @@
 -- A text is accepted as a literal of x exactly where it is one.
---     each-weaker   characters that pass a test pass a weaker one
 --     accepts       as stated in specs/Literal
-use mathlib.Core.Path.{_≡_, refl, sym, ap, ap₂, _∙_}
+use mathlib.Core.Path.{_≡_, refl, sym, ap, _∙_}
 use mathlib.Core.Bool.{Bool, true, false, not, _&&_, _||_, cond}
-use mathlib.Core.Logic.{_⊎_, inl, inr, ⊎-elim}
+use mathlib.Core.Logic.{_⊎_, inl, inr}
 use mathlib.Core.List.{List, [], _∷_, _++_}
 use Prim.Native.Nat.{ℕ}
 use native.Mathlib.Omega.{arith}
@@ -14,8 +13,9 @@ use Rattle.refusal.specs.Outcome.{Answer}
 use Rattle.refusal.specs.Outcome.Answer.{given, refused}
 use Rattle.value.specs.Checks.{Vector}
 use Rattle.literal_words.specs.Digits.{between, isUnderscore, decimalNumber, valueBits, each, isRun, isValue}
+use Rattle.literal_words.proofs.Characters.{each-weaker}
 use Rattle.literal_read.specs.Literal.{beforeApostrophe, behindApostrophe, isSize, isS, isBase, sized, based, signedBased, literal}
-use Rattle.literal_read.specs.Literal.{Parts, partsText, isSign, marked, LiteralOf, Accepts}
+use Rattle.literal_read.specs.Literal.{isSign, marked, LiteralOf, Accepts}
 
 -- ---- at the apostrophe
 
@@ -58,12 +58,6 @@ cut (c ∷ t) = go (eqb c 39) refl (cut t)
     go false e (inl h) = inl (rw e (ap (λ (x : List ℕ). c ∷ x) h))
     go false e (inr h) = inr (rw e h)
 
--- characters that pass a test pass a weaker one
-pub each-weaker : {p q : ℕ → Bool} → ((c : ℕ) → p c ≡ true → q c ≡ true) → (t : List ℕ) → each p t ≡ true → each q t ≡ true
-unfolding each
-each-weaker f [] h = refl
-each-weaker {p} f (c ∷ t) h = let e = and-true (p c) (each p t) h in rw (f c (e .0), each-weaker f t (e .1))
-
 apart : (p : ℕ → Bool) → p 39 ≡ false → (c : ℕ) → p c ≡ true → not (eqb c 39) ≡ true
 apart p n c h = go (eqb c 39) refl
   where
@@ -80,7 +74,7 @@ size-free (c ∷ s) h =
     let f = and-true (between 48 57 c) (each (λ e. between 48 57 e || isUnderscore e) s) (r .0) in
     rw (
       apart (between 48 57) refl c (f .0),
-      each-weaker (apart (λ e. between 48 57 e || isUnderscore e) refl) s (f .1),
+      each-weaker (λ e. between 48 57 e || isUnderscore e) (λ e. not (eqb e 39)) (apart (λ e. between 48 57 e || isUnderscore e) refl) s (f .1),
     )
 
 -- ---- accepted, so a literal

@@ -1,18 +1,19 @@
 -- The characters of a value, one after the other, and the values of a base by their first.
 --     each-off, each-on, each-done      a character that fails the test, one that passes it, and the end of the text
 --     value-none, value-lone, value-off, value-run      one law for each way through `is_value`
-use mathlib.Core.Path.{_≡_, refl, sym, ap, ap₂, _∙_}
-use mathlib.Core.Bool.{Bool, true, false, not, _&&_, _||_, cond}
+use mathlib.Core.Path.{_≡_, refl, ap₂, _∙_}
+use mathlib.Core.Bool.{Bool, true, false, not, _&&_, _||_, false≢true}
 use mathlib.Core.List.{List, [], _∷_}
-use Prim.Native.Nat.{ℕ, zero, suc, _+_, _≤_, _<_}
+use Prim.Native.Nat.{ℕ, _+_, _≤_, _<_}
 use native.Mathlib.Numerals.{add-one}
 use native.Mathlib.Omega.{arith}
-use lib.Dec.{eqb, leb, ltb}
+use lib.Dec.{leb, ltb}
 use lib.ListN.{length, drop, getD, drop-of-length-le}
 use lib.Seq.{drop-cons}
-use borrow.Author.Tests.{eqb-true, le-ltb, lt-ltb, leb-true, leb-false, not-true}
+use borrow.Author.Tests.{le-ltb, lt-ltb, leb-true, leb-false, not-true}
 use Rattle.bit.proofs.Tests.{and-true, and-none, or-none}
-use Rattle.literal_words.specs.Digits.{isUnderscore, isUnknown, digitNumber, isB, isO, isD, radix, isDigitOf, each, isRun, isLone, isValue}
+use Rattle.literal_words.specs.Digits.{isUnderscore, isUnknown, digitNumber, isD, radix, isDigitOf, each, isRun, isLone, isValue}
+use Rattle.literal_words.proofs.Characters.{Kind, an-x, a-z, known, kind, radix-range}
 use Rattle.literal_read.specs.Answers.{follows}
 
 module _ (p : ℕ → Bool) (s : List ℕ) (i : ℕ) where
@@ -37,26 +38,12 @@ each-same p q (c ∷ t) h = ap₂ (λ (x y : Bool). x && y) (h c) (each-same p q
 
 -- an x or z is no digit of a number
 unknown-number : (c : ℕ) → isUnknown c ≡ true → digitNumber c ≡ 16
-unfolding digitNumber
-unknown-number c h = go (eqb c 120) (eqb c 88) (eqb c 122) (eqb c 90) (eqb c 63) refl refl refl refl refl h
+unknown-number c h = go (kind c)
   where
-    go : (a b d e f : Bool) → eqb c 120 ≡ a → eqb c 88 ≡ b → eqb c 122 ≡ d → eqb c 90 ≡ e → eqb c 63 ≡ f → ((a || b) || (d || (e || f))) ≡ true → digitNumber c ≡ 16
-    go true b d e f p q r s t h = ap digitNumber (eqb-true c 120 p)
-    go false true d e f p q r s t h = ap digitNumber (eqb-true c 88 q)
-    go false false true e f p q r s t h = ap digitNumber (eqb-true c 122 r)
-    go false false false true f p q r s t h = ap digitNumber (eqb-true c 90 s)
-    go false false false false true p q r s t h = ap digitNumber (eqb-true c 63 t)
-    go false false false false false p q r s t h = let z : _≡_ {A = ℕ} 0 1 = cc in absurd (omega arith)
-
-radix-most : (base : ℕ) → radix base ≤ 16
-unfolding radix
-radix-most base = go (isB base) (isO base) (isD base)
-  where
-    go : (b o d : Bool) → cond b 2 (cond o 8 (cond d 10 16)) ≤ 16
-    go true o d = omega arith
-    go false true d = omega arith
-    go false false true = omega arith
-    go false false false = omega arith
+    go : Kind c → digitNumber c ≡ 16
+    go (an-x _ _ _ e) = e
+    go (a-z _ _ _ e) = e
+    go (known e f) = absurd (false≢true (rw (e, f) at h))
 
 -- ---- the values of a base
 
@@ -88,7 +75,7 @@ module _ (base c : ℕ) (t : List ℕ) where
   -- a decimal that begins with an x or z
   pub value-lone : isD base ≡ true → isUnknown c ≡ true → isValue base (c ∷ t) ≡ each (follows 0 false) t
   value-lone d u =
-      let h : radix base ≤ digitNumber c = rw (unknown-number c u) (radix-most base) in
+      let h : radix base ≤ digitNumber c = rw (unknown-number c u) (radix-range base .1) in
       let e : each isUnderscore t ≡ each (follows 0 false) t = each-same isUnderscore (follows 0 false) t (λ k. rw (le-ltb (digitNumber k) 0 (omega arith))) in
       value-as ∙ lone (ltb (digitNumber c) (radix base)) (isD base) (isUnknown c) (le-ltb (digitNumber c) (radix base) h) d u ∙ e
     where

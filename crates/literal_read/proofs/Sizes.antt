@@ -4,22 +4,19 @@
 use mathlib.Core.Path.{_≡_, refl, sym, ap, _∙_}
 use mathlib.Core.Bool.{Bool, true, false, not, _&&_, _||_, cond}
 use mathlib.Core.List.{List, [], _∷_}
-use Prim.Native.Nat.{ℕ, zero, suc, _+_, _-_, _*_, _≤_, _<_}
+use Prim.Native.Nat.{ℕ, _+_, _-_, _*_, _≤_, _<_}
 use native.Mathlib.Omega.{arith}
-use native.Mathlib.Numerals.{add-one}
 use lib.Dec.{eqb, leb, ltb}
-use lib.ListN.{length, drop, getD, drop-of-length-le}
-use lib.Seq.{drop-cons}
-use borrow.Author.Tests.{eq-eqb, ne-eqb, le-leb, lt-leb, le-ltb, lt-ltb, eqb-true, eqb-false, ltb-true, ltb-false, leb-true, leb-false}
+use borrow.Author.Tests.{ne-eqb, le-leb, lt-leb, le-ltb, lt-ltb, eqb-true, eqb-false, ltb-true, ltb-false}
 use Rattle.bit.proofs.Tests.{or-false, and-none, or-all}
 use Rattle.refusal.specs.Outcome.{Answer}
-use Rattle.refusal.specs.Outcome.Answer.{given, refused}
+use Rattle.refusal.specs.Outcome.Answer.{refused}
 use Rattle.value.specs.Checks.{Vector}
 use Rattle.literal_words.specs.Digits.{between, isUnderscore, digitNumber, digits, numberBy, decimalNumber, each, isRun}
 use Rattle.literal_read.specs.Literal.{beforeApostrophe, behindApostrophe, isSize, signedBased, literal}
 
 -- c is no digit that goes on from w
-abbrev pub noSize : ℕ → ℕ → Bool
+abbrev noSize : ℕ → ℕ → Bool
 noSize w c = (ltb c 48 || ltb 57 c) || (eqb c 48 && eqb w 0)
 
 -- what is left of a text whose size is read up to w; where w is 0, no digit is read yet

@@ -12,7 +12,7 @@ use value::VectorAnswer;
 use value::check_output;
 ghost use mathlib.Core.Path.{_≡_};
 ghost use mathlib.Core.Bool.{true};
-ghost use Prim.Native.Nat.{_≤_, _<_};
+ghost use Prim.Native.Nat.{_<_};
 ghost use lib.ListN.{drop};
 ghost use Rattle.refusal.specs.Outcome.{outcome};
 ghost use Rattle.words.specs.Planes.{lentBy};
@@ -50,7 +50,8 @@ const NO_LITERAL: Literal = Literal {
     value: 0,
 };
 
-// The size at the beginning of a text: decimal digits, of which the first is not 0, and after the first of them underscores.
+// The size at the beginning of a text: decimal digits, of which the first is not 0, and after the first of them underscores. While the width is
+// 0, no digit has been read.
 fn read_size(s: &[u8]) -> Size
     ensures { λ r. ⌜ sizeIn (now (s .entry)) r ≡ literal (now (s .entry)) ⌝ }
 {
@@ -59,14 +60,14 @@ fn read_size(s: &[u8]) -> Size
     while i < s.len() {
         let c = s[i];
         i += 1;
-        if c == 39 {
+        if c == b'\'' {
             return Size { width, next: i };
         }
-        if (c != 95) | (width == 0) {
-            if (c < 48) | (57 < c) | ((c == 48) & (width == 0)) {
+        if (c != b'_') | (width == 0) {
+            if (c < b'0') | (b'9' < c) | ((c == b'0') & (width == 0)) {
                 return NO_SIZE;
             }
-            width = width * 10 + (c - 48) as u32;
+            width = width * 10 + (c - b'0') as u32;
             if MAX_SIZE < width {
                 return NO_SIZE;
             }
@@ -79,14 +80,16 @@ fn read_size(s: &[u8]) -> Size
 fn is_sign(c: u8) -> bool
     ensures { λ r. ⌜ r ≡ isS c ⌝ }
 {
-    (c == 115) | (c == 83)
+    (c == b's') | (c == b'S')
 }
 
 // b, o, d or h, in either case.
 fn is_base(c: u8) -> bool
     ensures { λ r. ⌜ r ≡ isBase c ⌝ }
 {
-    (c == 98) | (c == 66) | ((c == 111) | (c == 79) | (is_decimal(c) | ((c == 104) | (c == 72))))
+    (c == b'b')
+        | (c == b'B')
+        | ((c == b'o') | (c == b'O') | (is_decimal(c) | ((c == b'h') | (c == b'H'))))
 }
 
 // Whether each character from a place on is a digit below a bound, an x or z where these may stand, or an underscore.
@@ -96,7 +99,7 @@ fn only_digits(s: &[u8], from: usize, below: u64, unknown: bool) -> bool
     let mut i = from;
     while i < s.len() {
         let c = s[i];
-        if !((digit_number(c) < below) | (unknown & is_unknown(c)) | (c == 95)) {
+        if !((digit_number(c) < below) | (unknown & is_unknown(c)) | (c == b'_')) {
             return false;
         }
         i += 1;

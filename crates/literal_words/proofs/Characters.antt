@@ -110,7 +110,7 @@ pub leading-at : (s : List ℕ) (from : ℕ) → from < length s → leading (ge
 unfolding leading
 leading-at s from l = rw (drop-cons s from 0 l)
 
-each-weaker : (p q : ℕ → Bool) → ((c : ℕ) → p c ≡ true → q c ≡ true) → (t : List ℕ) → each p t ≡ true → each q t ≡ true
+pub each-weaker : (p q : ℕ → Bool) → ((c : ℕ) → p c ≡ true → q c ≡ true) → (t : List ℕ) → each p t ≡ true → each q t ≡ true
 unfolding each
 each-weaker p q h [] e = refl
 each-weaker p q h (c ∷ t) e =

@@ -2,7 +2,7 @@
 -- bytes, and a base is its letter.
 use mathlib.Core.Bool.{Bool, true, false, not, _&&_, _||_, cond}
 use mathlib.Core.List.{List, [], _∷_, _++_}
-use Prim.Native.Nat.{ℕ, zero, suc, _+_, _-_, _*_, _%_, _^_}
+use Prim.Native.Nat.{ℕ, _+_, _-_, _*_, _%_, _^_}
 use lib.Dec.{eqb, leb, ltb}
 use lib.ListN.{getD}
 use Rattle.bit.specs.declared.LogicBit.{LogicBit}
@@ -53,7 +53,7 @@ isD c = eqb c 100 || eqb c 68
 unfoldable pub radix : ℕ → ℕ
 radix base = cond (isB base) 2 (cond (isO base) 8 (cond (isD base) 10 16))
 
--- how many bits a digit gives; decimal digits give none of their own
+-- how many bits a digit of b, o, h gives
 unfoldable pub digitWidth : ℕ → ℕ
 digitWidth base = cond (isB base) 1 (cond (isO base) 3 4)
 

@@ -14,14 +14,14 @@ pub const MAX_SIZE: u32 = 4096;
 fn is_x(c: u8) -> bool
     ensures { λ r. ⌜ r ≡ isX c ⌝ }
 {
-    (c == 120) | (c == 88)
+    (c == b'x') | (c == b'X')
 }
 
 // z, Z or ?.
 fn is_z(c: u8) -> bool
     ensures { λ r. ⌜ r ≡ isZ c ⌝ }
 {
-    (c == 122) | ((c == 90) | (c == 63))
+    (c == b'z') | ((c == b'Z') | (c == b'?'))
 }
 
 pub fn is_unknown(c: u8) -> bool
@@ -34,13 +34,13 @@ pub fn is_unknown(c: u8) -> bool
 pub fn digit_number(c: u8) -> u64
     ensures { λ r. ⌜ r ≡ digitNumber c ⌝ }
 {
-    if (48 <= c) & (c <= 57) {
-        return (c - 48) as u64;
+    if (b'0' <= c) & (c <= b'9') {
+        return (c - b'0') as u64;
     }
-    if (97 <= c) & (c <= 102) {
+    if (b'a' <= c) & (c <= b'f') {
         return (c - 87) as u64;
     }
-    if (65 <= c) & (c <= 70) {
+    if (b'A' <= c) & (c <= b'F') {
         return (c - 55) as u64;
     }
     16
@@ -49,17 +49,17 @@ pub fn digit_number(c: u8) -> u64
 pub fn is_decimal(base: u8) -> bool
     ensures { λ r. ⌜ r ≡ isD base ⌝ }
 {
-    (base == 100) | (base == 68)
+    (base == b'd') | (base == b'D')
 }
 
 // 2 for b, 8 for o, 10 for d, else 16.
 pub fn radix(base: u8) -> u64
     ensures { λ r. ⌜ r ≡ radixOf base ⌝ }
 {
-    if (base == 98) | (base == 66) {
+    if (base == b'b') | (base == b'B') {
         return 2;
     }
-    if (base == 111) | (base == 79) {
+    if (base == b'o') | (base == b'O') {
         return 8;
     }
     if is_decimal(base) { 10 } else { 16 }

@@ -10,7 +10,7 @@ use crate::radix;
 use words::unchecked::extend_into;
 use words::unchecked::mask_plane;
 ghost use mathlib.Core.Path.{_≡_};
-ghost use Prim.Native.Nat.{ℕ, _+_, _*_, _^_, _≤_, _<_};
+ghost use Prim.Native.Nat.{_+_, _*_, _^_, _≤_, _<_};
 ghost use mathlib.Core.Bool.{true};
 ghost use lib.ListN.{length, drop};
 ghost use Rattle.words.specs.Planes.{wordCount, lentBy, planesOf};
@@ -57,7 +57,7 @@ fn read_chunk(s: &[u8], from: usize, r: u64) -> Chunk
     while (i < s.len()) & (power <= 0x1000_0000) {
         let c = s[i];
         i += 1;
-        if c != 95 {
+        if c != b'_' {
             value = value * r + value_number(r, c);
             unknown = unknown * r + unknown_number(r, c);
             power = power * r;

@@ -46,6 +46,7 @@ table =
     ∷ row "32'h12ab_f001" "32'b00010010101010111111000000000001" ∷ row "12'h3x" "12'b00000011xxxx" ∷ row "12'hz3" "12'bzzzzzzzz0011"
     ∷ row "12'h0x3" "12'b0000xxxx0011" ∷ row "8'hzx" "8'bzzzzxxxx" ∷ row "9'hx5" "9'bxxxxx0101" ∷ row "3'hx5" "3'b101" ∷ row "7'o1z" "7'b0001zzz"
     ∷ row "1_6_'hf_f" "16'b0000000011111111" ∷ row "8'sh8" "8'sb00001000" ∷ row "4'd17" "4'b0001" ∷ row "8'd?_" "8'bzzzzzzzz"
+    ∷ row "8'SHF?" "8'sb1111zzzz" ∷ row "3'B?X1" "3'bzx1" ∷ row "6'O7Z" "6'b111zzz" ∷ row "8'hAf" "8'b10101111"
     ∷ row "8'd-6" "" ∷ row "'h837FF" "" ∷ row "4af" "" ∷ row "8'dxx" "" ∷ row "8'h_f" "" ∷ row "08'hff" "" ∷ row "0'b0" "" ∷ row "4097'b0" "" ∷ []
 
 worked : holds table ≡ true

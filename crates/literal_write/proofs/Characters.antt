@@ -5,12 +5,11 @@
 --     bits-pass, bits-again     the bits of a vector: their characters, and the bits that these stand for
 use mathlib.Core.Path.{_≡_, refl, sym, ap, ap₂, _∙_}
 use mathlib.Core.Logic.{⊎-elim}
-use mathlib.Core.Bool.{Bool, true, not}
+use mathlib.Core.Bool.{Bool, true, not, _||_}
 use mathlib.Core.List.{List, [], _∷_, _++_, reverse, reverse-cons}
 use Prim.Native.Nat.{ℕ, zero, suc, _+_, _*_, _/_, _%_, _≤_, _<_}
 use native.Mathlib.Omega.{arith}
-use borrow.Author.Tests.{leb-true, le-leb, ne-eqb, not-true}
-use lib.Dec.{leb}
+use borrow.Author.Tests.{le-leb, ne-eqb, not-true}
 use lib.ListN.{length, getD, List·getD-append}
 use Rattle.bit.specs.declared.LogicBit.{LogicBit}
 use Rattle.bit.specs.declared.LogicBit.the-variants.{Zero, One, X, Z}
@@ -19,10 +18,10 @@ use Rattle.words.specs.Vector.{tabulate}
 use Rattle.words.proofs.Digits.{lt-or-ge}
 use Rattle.text.specs.Read.{isDigit}
 use Rattle.text.specs.Write.{texts, decimal, bitByte, bitText}
-use Rattle.text.proofs.Decimal.{decimal-digit, decimal-split}
+use Rattle.text.proofs.Decimal.{decimal-digit, decimal-split, digit-bounds}
 use Rattle.lines.proofs.Put.{length-decimal}
 use Rattle.literal_words.specs.Digits.{isUnderscore, digitNumber, digits, numberBy, decimalNumber, digitBit, digitsBits, each, isRun}
-use Rattle.literal_read.proofs.Grammar.{each-weaker}
+use Rattle.literal_words.proofs.Characters.{each-weaker}
 
 -- ---- tests
 
@@ -34,7 +33,7 @@ each-append p (c ∷ s) t h k = let a = and-true (p c) (each p s) h in rw (a .0)
 pub run-of : (p : ℕ → Bool) (t : List ℕ) → each p t ≡ true → 0 < length t → isRun p t ≡ true
 unfolding each isRun
 run-of p [] h l = absurd (omega arith)
-run-of p (c ∷ t) h l = let a = and-true (p c) (each p t) h in rw (a .0) (each-weaker (λ e k. rw k) t (a .1))
+run-of p (c ∷ t) h l = let a = and-true (p c) (each p t) h in rw (a .0) (each-weaker p (λ e. p e || isUnderscore e) (λ e k. rw k) t (a .1))
 
 pub no-underscore : (t : List ℕ) → each (λ c. not (isUnderscore c)) t ≡ true → digits t ≡ t
 unfolding each digits
@@ -52,9 +51,6 @@ by-digits P one more n = go (suc n) n (omega arith)
     go : (f n : ℕ) → n < f → P n
     go zero n h = absurd (omega arith)
     go (suc f) n h = ⊎-elim (one n) (λ l. more n l (go f (n / 10) (omega arith))) (lt-or-ge n 10)
-
-digit-range : (c : ℕ) → isDigit c ≡ true → (48 ≤ c) × (c ≤ 57)
-digit-range c h = let a = and-true (leb 48 c) (leb c 57) h in (leb-true 48 c (a .0), leb-true c 57 (a .1))
 
 is-digit : (d : ℕ) → d < 10 → isDigit (48 + d) ≡ true
 is-digit d h =
@@ -95,11 +91,11 @@ number-again =
     (λ n h k. rw (decimal-split n h, number-append 10 digitNumber 0 (decimal (n / 10)) ((48 + n % 10) ∷ []), k, digit-again (n % 10) (omega arith)) (omega arith))
 
 pub decimal-again : (n : ℕ) → decimalNumber (decimal n) ≡ n
-decimal-again n = ap (numberBy 10 digitNumber 0) (no-underscore (decimal n) (each-weaker plain (decimal n) (decimal-digits n))) ∙ number-again n
+decimal-again n = ap (numberBy 10 digitNumber 0) (no-underscore (decimal n) (each-weaker isDigit (λ c. not (isUnderscore c)) plain (decimal n) (decimal-digits n))) ∙ number-again n
   where
     plain : (c : ℕ) → isDigit c ≡ true → not (isUnderscore c) ≡ true
     plain c h =
-        let high = digit-range c h .1 in
+        let high = digit-bounds c h .1 in
         let other : c ≡ 95 → ⊥ = omega arith in
         rw (ne-eqb _ _ other)
 

@@ -1,5 +1,5 @@
 -- The length of a literal, and what is written by it.
---     length-literal     the digits of the width, what stands between, and a digit for each bit
+--     length-literal, length-lent     the digits of the width, what stands between, and a digit for each bit
 --     length-taken     what `literal_length` answers where the width is 1 to 4,096 and the vector no fill
 --     length-given     where it gives a length, that is the length of the text
 --     by-length     a vector that `check_vector` accepts is written by what `literal_length` answers
@@ -20,6 +20,7 @@ use Rattle.value.specs.Checks.{maxWidth, vector, checkPlanes, checkVector}
 use Rattle.value.proofs.Checks.{planes-accepted}
 use Rattle.text.specs.Write.{decimal, bitDigits}
 use Rattle.lines.proofs.Put.{length-bits, length-planes}
+use Rattle.literal_words.specs.Digits.{maxSize}
 use Rattle.literal_write.specs.Write.{baseText, literalText, checkSize, checkHeader, literalLength, writtenText, writeLiteral}
 
 pub length-literal : (w : ℕ) (s : Bool) (bs : List LogicBit) → length bs ≡ w
@@ -28,13 +29,13 @@ length-literal w s bs e =
     omega (arith, length-append (decimal w) (baseText s ++ bitDigits bs), length-append (baseText s) (bitDigits bs), length-bits bs)
 
 -- the text of lent planes
-length-lent : (h : Header) (p : Planes) → length (literalText (vector h p)) ≡ length (decimal (h .width)) + length (baseText (h .«is_signed»)) + h .width
+pub length-lent : (h : Header) (p : Planes) → length (literalText (vector h p)) ≡ length (decimal (h .width)) + length (baseText (h .«is_signed»)) + h .width
 unfolding literalText
 length-lent h p = length-literal (h .width) (h .«is_signed») (vector h p .bits) (length-planes (h .width) (p .value) (p .unknown))
 
 -- ---- what `literal_length` answers
 
-pub length-taken : (h : Header) → h .«is_fill» ≡ false → 1 ≤ h .width → h .width ≤ 4096
+pub length-taken : (h : Header) → h .«is_fill» ≡ false → 1 ≤ h .width → h .width ≤ maxSize
     → literalLength h ≡ given (length (decimal (h .width)) + length (baseText (h .«is_signed»)) + h .width)
 unfolding literalLength checkHeader checkSize
 length-taken h f l m =

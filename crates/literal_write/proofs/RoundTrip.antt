@@ -1,30 +1,36 @@
 -- Reading a literal that was written yields the same vector, and its length is the one that is told.
---     round-trip, length-told     as stated in specs/Write
+--     text-again    reading the text of a vector
+--     round-trip    as stated in specs/Write
 use mathlib.Core.Path.{_≡_, refl, sym, ap, _∙_}
-use mathlib.Core.Bool.{Bool, true, false, not}
+use mathlib.Core.Bool.{Bool, true, false, not, _&&_, cond}
 use mathlib.Core.List.{List, [], _∷_, _++_, reverse, reverse-reverse}
 use Prim.Native.Nat.{ℕ, _≤_, _<_}
 use native.Mathlib.Omega.{arith}
-use borrow.Author.Tests.{le-leb, ne-eqb}
+use borrow.Author.Tests.{le-leb, ne-eqb, leb-true, not-true}
+use lib.Dec.{eqb, leb}
 use lib.ListN.{length, getD}
-use Rattle.refusal.specs.Outcome.Answer.{given}
 use Rattle.bit.specs.declared.LogicBit.{LogicBit}
 use Rattle.bit.specs.declared.LogicBit.the-variants.{Zero, One, X, Z}
+use Rattle.bit.proofs.Tests.{and-true}
+use Rattle.refusal.specs.Outcome.{Answer, Outcome, outcome, refuse, orRefuse, after}
+use Rattle.refusal.specs.Outcome.Answer.{given, refused}
 use Rattle.words.proofs.Planes.{eq-tabulate}
-use Rattle.value.specs.Checks.{Vector}
+use Rattle.value.specs.declared.Header.{Header}
+use Rattle.value.specs.Checks.{Vector, vector, checkVector}
 use Rattle.text.specs.Read.{isDigit}
 use Rattle.text.specs.Write.{decimal, bitByte, bitDigits}
-use Rattle.lines.proofs.Put.{length-bits}
-use Rattle.literal_words.specs.Digits.{isUnderscore, digitNumber, radix, digitWidth, digitsBits, leading, valueBits, isDigitOf, isValue}
-use Rattle.literal_read.specs.Literal.{isSize, isSign, marked, LiteralOf}
+use Rattle.lines.proofs.Put.{length-bits, length-planes}
+use Rattle.literal_words.specs.Digits.{maxSize, isUnderscore, digitNumber, radix, digitWidth, digitsBits, leading, valueBits, isDigitOf, isValue}
+use Rattle.literal_read.specs.Literal.{isSize, literal, isSign, marked, LiteralOf}
 use Rattle.literal_read.proofs.Grammar.{accepts}
-use Rattle.literal_write.specs.Write.{baseText, literalText, Writable, RoundTrip, LengthTold}
-use Rattle.literal_write.proofs.Lengths.{length-literal, length-taken}
-use Rattle.literal_write.proofs.Characters.{run-of, no-underscore, decimal-digits, decimal-some, decimal-first, decimal-again, bits-pass, bits-again}
+use Rattle.literal_write.specs.Write.{baseText, literalText, checkSize, literalLength, writtenText, writeLiteral, RoundTrip}
+use Rattle.literal_write.proofs.Lengths.{length-lent, length-taken}
+use Rattle.literal_write.proofs.Characters.{run-of, no-underscore, bits-pass, bits-again}
+use Rattle.literal_write.proofs.Characters.{decimal-digits, decimal-some, decimal-first, decimal-again}
 
 -- ---- the size
 
-size-holds : (w : ℕ) → 1 ≤ w → w ≤ 4096 → isSize (decimal w) ≡ true
+size-holds : (w : ℕ) → 1 ≤ w → w ≤ maxSize → isSize (decimal w) ≡ true
 unfolding isSize
 size-holds w l h =
     let first = decimal-first w l in
@@ -76,6 +82,12 @@ sign-again : (s : Bool) → marked (signText s) ≡ s
 sign-again true = refl
 sign-again false = refl
 
+-- a vector that is written: its bits are as many as its width says, which is 1 to 4,096, and it is no fill
+record Writable (x : Vector) : Type 0 where
+  many : length (x .bits) ≡ x .header .width
+  size : (1 ≤ x .header .width) × (x .header .width ≤ maxSize)
+  plain : x .header .«is_fill» ≡ false
+
 literal-of : (x : Vector) → Writable x → LiteralOf (literalText x) x
 unfolding literalText
 literal-of x r =
@@ -92,11 +104,47 @@ literal-of x r =
           (ap (λ (f : Bool). record { header = record { width = w; «is_signed» = s; «is_fill» = f }; bits = x .bits }) (r .plain));
     }
 
-pub round-trip : RoundTrip
-round-trip x r = accepts (literalText x) x .1 (literal-of x r)
+text-again : (x : Vector) → Writable x → literal (literalText x) ≡ given x
+text-again x r = accepts (literalText x) x .1 (literal-of x r)
 
-pub length-told : LengthTold
-unfolding literalText
-length-told x r =
-    length-taken (x .header) (r .plain) (r .size .0) (r .size .1)
-    ∙ ap (λ (n : ℕ). given n) (sym (length-literal (x .header .width) (x .header .«is_signed») (x .bits) (r .many)))
+-- ---- what the writer writes
+
+size-taken : (h : Header) → checkSize h ≡ given tt → (h .«is_fill» ≡ false) × (1 ≤ h .width) × (h .width ≤ maxSize)
+unfolding checkSize
+size-taken h e = go (not (h .«is_fill») && (leb 1 (h .width) && leb (h .width) maxSize)) refl e
+  where
+    go : (b : Bool) → (not (h .«is_fill») && (leb 1 (h .width) && leb (h .width) maxSize)) ≡ b
+        → _≡_ {A = Answer Unit} (cond b (given tt) (refused 15)) (given tt) → (h .«is_fill» ≡ false) × (1 ≤ h .width) × (h .width ≤ maxSize)
+    go false q e = let z : _≡_ {A = ℕ} 0 1 = cc in absurd (omega arith)
+    go true q e =
+        let a = and-true (not (h .«is_fill»)) (leb 1 (h .width) && leb (h .width) maxSize) q in
+        let b = and-true (leb 1 (h .width)) (leb (h .width) maxSize) (a .1) in
+        (not-true _ (a .0), leb-true _ _ (b .0), leb-true _ _ (b .1))
+
+pub round-trip : RoundTrip
+unfolding writeLiteral
+round-trip h p out t e = go (checkVector h p) (checkSize h) refl e
+  where
+    w : List ℕ
+    w = literalText (vector h p)
+
+    none : (n : ℕ) → _≡_ {A = Outcome Unit (List ℕ)} (refuse n out) (outcome (given tt) t) → ⊥
+    none n e =
+        let f : _≡_ {A = Answer Unit} (refused n) (given tt) = ap (λ (o : Outcome Unit (List ℕ)). o .answer) e in
+        let z : _≡_ {A = ℕ} 0 1 = cc in
+        absurd (omega arith)
+
+    same : (b : Bool) → _≡_ {A = Outcome Unit (List ℕ)} (cond b (outcome (given tt) w) (refuse 5 out)) (outcome (given tt) t) → w ≡ t
+    same true e = ap (λ (o : Outcome Unit (List ℕ)). o .left) e
+    same false e = absurd (none 5 e)
+
+    go : (a b : Answer Unit) → checkSize h ≡ b → orRefuse (after a b) out (writtenText w out) ≡ outcome (given tt) t
+        → (literal t ≡ given (vector h p)) × (literalLength h ≡ given (length t))
+    go (refused n) b q e = absurd (none n e)
+    go (given u) (refused n) q e = absurd (none n e)
+    go (given u) (given v) q e =
+        let s = size-taken h q in
+        let k : w ≡ t = same (eqb (length out) (length w)) e in (
+          ap literal (sym k) ∙ text-again (vector h p) (record { many = length-planes (h .width) (p .value) (p .unknown); size = (s .1, s .2); plain = s .0 }),
+          length-taken h (s .0) (s .1) (s .2) ∙ ap (λ (n : ℕ). given n) (sym (length-lent h p) ∙ ap length k),
+        )

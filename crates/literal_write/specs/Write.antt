@@ -2,7 +2,7 @@
 use mathlib.Core.Path.{_≡_}
 use mathlib.Core.Bool.{Bool, true, false, not, _&&_, cond}
 use mathlib.Core.List.{List, _++_}
-use Prim.Native.Nat.{ℕ, _+_, _≤_}
+use Prim.Native.Nat.{ℕ, _+_}
 use lib.Dec.{eqb, leb, ltb}
 use lib.ListN.{length}
 use Rattle.refusal.specs.Outcome.{Answer, Outcome, outcome, refuse, orRefuse, after}
@@ -46,18 +46,10 @@ writtenText w out = cond (eqb (length out) (length w)) (outcome (given tt) w) (r
 unfoldable pub writeLiteral : Header → Planes → List ℕ → Outcome Unit (List ℕ)
 writeLiteral h p out = orRefuse (after (checkVector h p) (checkSize h)) out (writtenText (literalText (vector h p)) out)
 
--- ---- laws, stated
+-- ---- the way back, stated
 
--- a vector that is written: its bits are as many as its width says, which is 1 to 4,096, and it is no fill
-pub record Writable (x : Vector) : Type 0 where
-  pub many : length (x .bits) ≡ x .header .width
-  pub size : (1 ≤ x .header .width) × (x .header .width ≤ maxSize)
-  pub plain : x .header .«is_fill» ≡ false
-
--- reading a literal that was written yields the same vector
+-- where a vector was written as t, reading t gives the same vector, and `literal_length` tells how long t is
 abbrev pub RoundTrip : Type 0
-RoundTrip = (x : Vector) → Writable x → literal (literalText x) ≡ given x
-
--- the length that `literal_length` tells is that of the text
-abbrev pub LengthTold : Type 0
-LengthTold = (x : Vector) → Writable x → literalLength (x .header) ≡ given (length (literalText x))
+RoundTrip =
+    (h : Header) (p : Planes) (out t : List ℕ) → writeLiteral h p out ≡ outcome (given tt) t
+    → (literal t ≡ given (vector h p)) × (literalLength h ≡ given (length t))

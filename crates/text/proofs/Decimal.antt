@@ -1,13 +1,15 @@
 -- Numbers in decimal: what is read is what is written.
 --     decimal-digit, decimal-more, decimal-split     the text of one digit, and of a number with one digit more
+--     digit-bounds      the bytes of digits
 --     number-exact, line-exact        the readers of a number and of a line with a number
 use mathlib.Core.Path.{_≡_, refl, sym, ap, _∙_}
-use mathlib.Core.Bool.{Bool, true, false, _&&_, cond}
+use mathlib.Core.Bool.{Bool, true, false, cond}
 use mathlib.Core.List.{List, [], _∷_, _++_, append-assoc}
 use Prim.Native.Nat.{ℕ, zero, suc, _+_, _-_, _*_, _/_, _%_, _≤_, _<_}
 use native.Mathlib.Omega.{arith}
 use lib.Dec.{ltb, leb, eqb}
 use borrow.Author.Tests.{ne-eqb, le-leb, le-ltb, lt-ltb, eqb-true, leb-true, eqb-false, ltb-true, ltb-false}
+use Rattle.bit.proofs.Tests.{and-true}
 use Rattle.text.specs.Read.{Got, found, broken, onlyIf, next, lineEnd, key, isDigit, more, number, numberLine}
 use Rattle.text.specs.Write.{decimalDigits, decimal, numberText}
 use Rattle.text.specs.Exact.{Exact}
@@ -48,12 +50,8 @@ decimal-split n h =
 
 -- ---- no other text is read
 
-digit-bounds : (c : ℕ) → isDigit c ≡ true → (48 ≤ c) × (c ≤ 57)
-digit-bounds c h = go (leb 48 c) refl h
-  where
-    go : (b : Bool) → leb 48 c ≡ b → (b && leb c 57) ≡ true → (48 ≤ c) × (c ≤ 57)
-    go true e h = (leb-true 48 c e, leb-true c 57 h)
-    go false e h = let z : _≡_ {A = ℕ} 0 1 = cc in absurd (omega arith)
+pub digit-bounds : (c : ℕ) → isDigit c ≡ true → (48 ≤ c) × (c ≤ 57)
+digit-bounds c h = let a = and-true (leb 48 c) (leb c 57) h in (leb-true 48 c (a .0), leb-true c 57 (a .1))
 
 more-only : (m n : ℕ) (t u : List ℕ) (v : ℕ) → 0 < n → n ≤ m → more m n t ≡ found v u → (v ≤ m) × (decimal n ++ t ≡ decimal v ++ (10 ∷ u))
 unfolding more

@@ -1,8 +1,6 @@
 -- `literal_read::literal_header`: the header of the parts.
-use mathlib.Core.Path.{_≡_, sym, ap, _∙_}
-use lib.ListN.{drop}
+use mathlib.Core.Path.{sym, ap, _∙_}
 use borrow.Author.Needs.{needs}
-use Rattle.literal_words.specs.Digits.{valueBits}
 use Rattle.literal_read.specs.Literal.{headerIn}
 use Rattle.literal_read.proofs.Behind.{no-literal, a-literal}
 use Rattle.literal_read.proofs.literal_header.Statement.{statement}

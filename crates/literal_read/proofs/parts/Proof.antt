@@ -1,18 +1,17 @@
 -- `literal_read::parts`: part by part, what is left of the text is a literal as all of it is.
-use mathlib.Core.Path.{_≡_, refl, sym, ap, _∙_}
+use mathlib.Core.Path.{_≡_, sym, _∙_}
 use mathlib.Core.Bool.{Bool, true, false}
 use mathlib.Core.List.{List}
 use Prim.Native.Nat.{ℕ, _+_, _≤_, _<_}
 use native.Mathlib.Omega.{arith}
 use mir.Val.{boolByte}
-use lib.ListN.{length, drop, getD}
+use lib.ListN.{drop, getD}
 use borrow.Author.Tests.{not-true, not-false}
 use borrow.Author.Needs.{needs}
 use Rattle.refusal.specs.Outcome.{Answer}
 use Rattle.refusal.specs.Outcome.Answer.{refused}
 use Rattle.value.specs.Checks.{Vector}
-use Rattle.literal_words.specs.Digits.{isValue}
-use Rattle.literal_read.specs.Literal.{isS, based, signedBased, literal}
+use Rattle.literal_read.specs.Literal.{based, signedBased, literal}
 use Rattle.literal_read.specs.declared.Literal.{Literal}
 use Rattle.literal_read.proofs.Behind.{sign-ends, sign-read, base-ends, base-other, value-other, base-read, no-size, a-size, a-literal}
 use Rattle.literal_read.proofs.parts.Statement.{statement}

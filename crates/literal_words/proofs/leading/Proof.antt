@@ -1,5 +1,5 @@
 -- `literal_words::leading`: by the tests on the way.
-use mathlib.Core.Path.{_≡_, sym, _∙_}
+use mathlib.Core.Path.{sym, _∙_}
 use borrow.Author.Needs.{needs}
 use Rattle.literal_words.specs.Digits.{leading}
 use Rattle.literal_words.proofs.leading.Statement.{statement}
