@@ -1,4 +1,4 @@
-// Sized literals of IEEE 1800-2017, 5.7.1, read: a size of 1 to 4,096 bits, an apostrophe, an optional s, a base and a value, such as 8'hzx.
+// Sized literals of IEEE 1800-2017, 5.7.1, read: a size of 1 to 4,096, an apostrophe, an optional s, a base and a value, such as 8'hzx.
 use literal_words::MAX_SIZE;
 use literal_words::digit_number;
 use literal_words::is_decimal;
@@ -50,8 +50,8 @@ const NO_LITERAL: Literal = Literal {
     value: 0,
 };
 
-// The size at the beginning of a text: decimal digits, of which the first is not 0, and after the first of them underscores. While the width is
-// 0, no digit has been read.
+// The size at the beginning of a text: decimal digits, of which the first is not 0, and after the first of them underscores. While the width
+// is 0, no digit has been read.
 fn read_size(s: &[u8]) -> Size
     ensures { λ r. ⌜ sizeIn (now (s .entry)) r ≡ literal (now (s .entry)) ⌝ }
 {

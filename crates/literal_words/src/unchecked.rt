@@ -1,6 +1,6 @@
-// The planes of a literal's value. Several digits are read at once into a number, and a pass over a plane multiplies by their power and adds
-// that number. An x or z that is extended is a plane of ones to begin with, which stays so above the digits. These ask their caller for a
-// value of the base and for planes of the right length.
+// The planes of a literal's value. Several digits are read at once into a number, and a pass over a plane multiplies by their power and
+// adds that number. An x or z that is extended is a plane of ones to begin with, which stays so above the digits. These ask their caller
+// for a value of the base and for planes of the right length.
 use crate::digit_number;
 use crate::is_unknown;
 use crate::is_x;
