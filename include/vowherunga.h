@@ -325,8 +325,10 @@ vowherunga_run_result vowherunga_run(const uint8_t *text, size_t text_len, uint6
                                      uint32_t widths[VOWHERUNGA_MAX_CELLS], bool signs[VOWHERUNGA_MAX_CELLS],
                                      bool fills[VOWHERUNGA_MAX_CELLS], uint8_t out[VOWHERUNGA_OUTPUT_BYTES]);
 
-// ---- Sized literals of IEEE 1800-2017, 5.7.1, such as 8'hzx: a size of 1 to 4,096, an apostrophe, an optional s, a base (b, o, d or h) and a
-// value. A text is its bytes alone, with no 0 behind them.
+// ---- Sized literals of IEEE 1800-2017, 5.7.1, such as 8'hzx: a size of 1 to 4,096 without a leading 0, an apostrophe, an optional s, a base
+// (b, o, d or h) and any number of digits, letters in either case, with x and z or ?; a decimal has digits alone or is a single x or z.
+// Underscores may stand behind the first digit of size and value, white space nowhere. Too few digits are extended by x or z if the first is
+// one, else by 0; of too many the upper bits go. A text is its bytes alone, with no 0 behind them.
 
 // The header of a literal's vector, which is signed if there is an s, and no fill. Refused by 15.
 vowherunga_header_result vowherunga_literal_header(const uint8_t *text, size_t text_len);

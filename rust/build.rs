@@ -14,7 +14,7 @@ fn place(variable: &str, default: &str) -> PathBuf {
 }
 
 /// The crates whose exports the binding calls.
-const LIBRARIES: [&str; 6] = ["ffi", "ffi_answers", "ffi_words", "ffi_store", "ffi_run", "ffi_literal"];
+const LIBRARIES: [&str; 6] = ["ffi", "ffi_answers", "ffi_words", "ffi_literal", "ffi_store", "ffi_run"];
 
 fn link_libraries() {
     let folder = place("VOWHERUNGA_STATICLIB", "../target/staticlib");

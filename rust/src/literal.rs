@@ -1,7 +1,7 @@
 //! Sized literals of IEEE 1800-2017 (5.7.1), read and written: a size of 1 to 4,096 bits, an apostrophe, an optional s for a signed vector, a
 //! base (b, o, d or h) and a value, with nothing before, between or behind.
 //!
-//! The value of a b, o or h literal has a digit for each 1, 3 or 4 bits: of its base, x, or z, which may be written `?`. Too few digits are extended
+//! There may be any number of digits. The value of a b, o or h literal has one for each 1, 3 or 4 bits: of its base, x, or z, which may be written `?`. Too few digits are extended
 //! on the left by x or z if the first digit is one, else by 0, also if the vector is signed; of too many the upper bits go. A d literal is a decimal
 //! number modulo 2 to the size, or a single x or z. Letters stand in either case. After the first digit of size or value there may be underscores.
 //! The size has no leading 0.

@@ -6,7 +6,7 @@
 # says whether the version that is installed reads the same. To add a literal, put it on a line of its own, and write the table again.
 #
 # Left out is what Icarus takes and the library refuses: white space inside a literal, a size with a leading 0, above 4,096 or, as 4294967304'hff,
-# taken modulo 2 to the 32.
+# taken modulo 2 to the 32. The widest is 256 bits: Icarus 11.0 stops at a %b of 4,096.
 set -eu
 export LC_ALL=C
 table=$(cd "$(dirname "$0")" && pwd -P)/icarus.txt

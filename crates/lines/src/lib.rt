@@ -1,4 +1,4 @@
-// Writers of the lines of a text into a lent buffer: a key, and behind it a number or the bits of a vector.
+// Writers into a lent buffer: the lines of a text, a key and behind it a number or the bits of a vector; and a number or bits alone.
 use bit::LogicBit;
 ghost use mathlib.Core.Path.{_≡_};
 ghost use Rattle.text.specs.Write.{bitByte};

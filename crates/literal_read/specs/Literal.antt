@@ -24,7 +24,7 @@ unfoldable pub behindApostrophe : List ℕ → List ℕ
 behindApostrophe [] = []
 behindApostrophe (c ∷ t) = cond (eqb c 39) t (behindApostrophe t)
 
--- a decimal without a leading 0, of 1 to 4,096
+-- a decimal of 1 to 4,096, without a leading 0 (the standard's `non_zero_unsigned_number`)
 unfoldable pub isSize : List ℕ → Bool
 isSize t = isRun (between 48 57) t && (not (eqb (getD t 0 0) 48) && leb (decimalNumber t) maxSize)
 

@@ -50,8 +50,8 @@ const NO_LITERAL: Literal = Literal {
     value: 0,
 };
 
-// The size at the beginning of a text: decimal digits, of which the first is not 0, and after the first of them underscores. While the width
-// is 0, no digit has been read.
+// The size at the beginning of a text: decimal digits, of which the first is not 0, and after the first of them underscores. While the
+// width is 0, no digit has been read.
 fn read_size(s: &[u8]) -> Size
     ensures { λ r. ⌜ sizeIn (now (s .entry)) r ≡ literal (now (s .entry)) ⌝ }
 {
@@ -87,9 +87,10 @@ fn is_sign(c: u8) -> bool
 fn is_base(c: u8) -> bool
     ensures { λ r. ⌜ r ≡ isBase c ⌝ }
 {
-    (c == b'b')
-        | (c == b'B')
-        | ((c == b'o') | (c == b'O') | (is_decimal(c) | ((c == b'h') | (c == b'H'))))
+    let is_binary = (c == b'b') | (c == b'B');
+    let is_octal = (c == b'o') | (c == b'O');
+    let is_hex = (c == b'h') | (c == b'H');
+    is_binary | (is_octal | (is_decimal(c) | is_hex))
 }
 
 // Whether each character from a place on is a digit below a bound, an x or z where these may stand, or an underscore.

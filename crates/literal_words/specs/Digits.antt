@@ -119,5 +119,6 @@ unfoldable pub isLone : List ℕ → Bool
 isLone [] = false
 isLone (c ∷ t) = isUnknown c && each isUnderscore t
 
+-- a value of a base: its digits; for d also a lone x or z
 unfoldable pub isValue : ℕ → List ℕ → Bool
 isValue base t = isRun (isDigitOf base) t || (isD base && isLone t)

@@ -24,6 +24,7 @@ fn is_z(c: u8) -> bool
     (c == b'z') | ((c == b'Z') | (c == b'?'))
 }
 
+// x or z.
 pub fn is_unknown(c: u8) -> bool
     ensures { λ r. ⌜ r ≡ isUnknown c ⌝ }
 {
@@ -46,6 +47,7 @@ pub fn digit_number(c: u8) -> u64
     16
 }
 
+// d or D.
 pub fn is_decimal(base: u8) -> bool
     ensures { λ r. ⌜ r ≡ isD base ⌝ }
 {

@@ -44,7 +44,7 @@ fn unknown_number(r: u64, c: u8) -> u64
     if is_unknown(c) { r - 1 } else { 0 }
 }
 
-// The digits from a place on, until there are more than 2^28 numbers of as many digits or the text ends.
+// The digits from a place on, until the power of the base passes 2^28 or the text ends.
 fn read_chunk(s: &[u8], from: usize, r: u64) -> Chunk
     requires { ⌜ (2 ≤ r) × (r ≤ 16) × (from < length (now s)) ⌝ }
     requires { ⌜ readable r (drop from (now s)) ≡ true ⌝ }

@@ -20,7 +20,7 @@ impl Counts {
     }
 }
 
-/// One byte changed, left out, put in, doubled or exchanged with the next; or all from some byte on left out.
+/// One byte changed, left out, put in, put behind, doubled or exchanged with the one before; or all from some byte on left out.
 fn damaged(draw: &mut Draw, text: &[u8]) -> Vec<u8> {
     let mut text = text.to_vec();
     let i = draw.below(text.len());

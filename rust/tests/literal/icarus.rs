@@ -21,5 +21,5 @@ fn as_icarus_reads() {
         reads(text.as_bytes(), [want.words(); 2], Ok(&want));
         lines += 1;
     }
-    assert!(lines >= 200, "{lines} lines");
+    assert_eq!(lines, 401);
 }

@@ -1,6 +1,6 @@
 //! Literals by name, each with the bits that it stands for, and texts that are none. The evaluator is held to them too.
 use crate::evaluator::{self, Literal};
-use crate::read::{compare, reads};
+use crate::read::reads;
 use vowherunga::{literal, Refusal};
 
 /// A literal, and the bits of its vector.
@@ -54,7 +54,7 @@ const REFUSED: [&str; 28] = [
     "4294967304'hff",
 ];
 
-/// Forms without a size.
+/// A size or a base is missing.
 const UNSIZED: [&str; 6] = ["'hff", "'1", "12", "'b0", "h1", "8"];
 
 fn stands_for(text: &str, is_signed: bool, bits: &str) {
@@ -84,6 +84,5 @@ fn refused() {
         assert_eq!(evaluator::literal(text.as_bytes()), None, "{text:?}");
         assert_eq!(literal::header(text.as_bytes()), Err(Refusal::BadLiteral), "{text:?}");
         reads(text.as_bytes(), [1; 2], Err(Refusal::BadLiteral));
-        assert!(!compare(text.as_bytes()));
     }
 }

@@ -1,7 +1,7 @@
 //! Vectors written as literals: the text, that it is read again, and each refusal, by which the text does not change.
 use crate::draw::{Draw, EDGES};
 use crate::evaluator::Literal;
-use crate::read::{compare, reads};
+use crate::read::reads;
 use vowherunga::{literal, Header, Refusal, MAX_WIDTH};
 
 const GUARD: u8 = 0xa5;
@@ -74,24 +74,6 @@ fn round_trips() {
                 bits,
             });
         }
-    }
-}
-
-/// What is read from any literal is written as one that stands for the same vector.
-#[test]
-fn read_and_written() {
-    for (text, want) in [
-        ("8'hzx", "8'bzzzzxxxx"),
-        ("12'Shx5", "12'sbxxxxxxxx0101"),
-        ("4'd17", "4'b0001"),
-        ("7'o1?", "7'b0001zzz"),
-        ("5'SDx_", "5'sbxxxxx"),
-    ] {
-        assert!(compare(text.as_bytes()));
-        let h = literal::header(text.as_bytes()).unwrap();
-        let (mut value, mut unknown) = ([0], [0]);
-        assert_eq!(literal::read(text.as_bytes(), &mut value, &mut unknown), Ok(h));
-        assert_eq!(written(h, &value, &unknown, want.len()), (Ok(()), want.as_bytes().to_vec()));
     }
 }
 
