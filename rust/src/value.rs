@@ -72,7 +72,8 @@ pub fn from_u64(val: u64, width: u32, value: &mut [u64], unknown: &mut [u64]) ->
 }
 
 /// The unsigned vector of a text: one of 0, 1, x and z for each bit, highest first. The text is refused, and nothing is written, at its first
-/// character that is no bit, then by 1 above [`MAX_WIDTH`] bits, then by 5 as in the other constructors.
+/// character that is no bit, then by 1 above [`MAX_WIDTH`] bits, then by 5 as in the other constructors. Literals such as `8'hzx` are read by
+/// [`literal::read`](crate::literal::read).
 ///
 /// ```
 /// use vowherunga::{value, ParseError};

@@ -1,6 +1,6 @@
 //! Vectors by reference: header and planes together, each plane under its name. A method answers and refuses as the function that it names.
 use crate::narrow::{ComparesPlanes, OfPlanes};
-use crate::{bitwise, compare, planes, reduce, value, Header, LogicBit, Operand, ParseError, Refusal, Truth, Word};
+use crate::{bitwise, compare, literal, planes, reduce, value, Header, LogicBit, Operand, ParseError, Refusal, Truth, Word};
 use std::fmt::{self, Write};
 
 /// A vector whose planes are lent for reading. It is shown as its bits, highest first.
@@ -85,6 +85,12 @@ impl VectorRef<'_> {
     #[inline]
     pub fn extract64(self, pos: usize, n: usize) -> Result<Word, Refusal> {
         planes::extract64(self.header.width, self.value, self.unknown, pos, n)
+    }
+
+    /// [`literal::write`]
+    #[inline]
+    pub fn write_literal(self, text: &mut [u8]) -> Result<(), Refusal> {
+        literal::write(self.header, self.value, self.unknown, text)
     }
 
     #[inline(always)]
@@ -228,6 +234,12 @@ impl<'a> PlanesMut<'a> {
     /// [`value::parse`]
     pub fn parse(self, text: &str) -> Result<VectorRef<'a>, ParseError> {
         self.write(|v, u| value::parse(text, v, u))
+    }
+
+    /// [`literal::read`]
+    #[inline]
+    pub fn read_literal(self, text: &[u8]) -> Result<VectorRef<'a>, Refusal> {
+        self.write(|v, u| literal::read(text, v, u))
     }
 }
 

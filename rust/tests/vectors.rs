@@ -1,7 +1,7 @@
 //! The methods on vectors by reference: each answers, refuses and writes as the function over planes that it names.
 use vowherunga::planes::word_count;
 use vowherunga::store::{Store, Stored};
-use vowherunga::{bitwise, compare, planes, reduce, value};
+use vowherunga::{bitwise, compare, literal, planes, reduce, value};
 use vowherunga::{Header, LogicBit, Operand, OperandRef, PlanesMut, Refusal, VectorMut, VectorRef, Word};
 
 /// A vector that owns its planes.
@@ -191,6 +191,28 @@ fn of_a_vector_in_place() {
                     |v, u| bitwise::splice_bits64(s.header, v, u, i, bits, n),
                 );
             }
+        }
+    }
+}
+
+#[test]
+fn as_a_literal() {
+    for a in samples() {
+        let length = literal::length(a.header).unwrap_or(4);
+        for length in [length, length + 1] {
+            let [mut by_position, mut by_name] = [(); 2].map(|()| vec![b'?'; length]);
+            let want = literal::write(a.header, &a.value, &a.unknown, &mut by_position);
+            assert_eq!(a.by_ref().write_literal(&mut by_name), want);
+            assert_eq!(by_name, by_position);
+        }
+    }
+    for text in ["8'hzx", "65'sdx", "8'"] {
+        for words in [1, 2] {
+            let text = text.as_bytes();
+            assert_eq!(
+                by_name(words, |out| out.read_literal(text)),
+                by_position(words, |v, u| literal::read(text, v, u))
+            );
         }
     }
 }
