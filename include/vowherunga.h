@@ -73,7 +73,9 @@ enum {
 // What vowherunga_add_step answers in place of a refusal to a code that is no op's; nothing changes then.
 enum { VOWHERUNGA_NO_SUCH_OP = 255 };
 
-// A vector's width and marks.
+// A vector's width and marks. Every operator of two vectors (and, or, xor, merge, equality, the case forms, wildcard equality) reads them
+// alike, at the larger width. A fill is stretched: all its bits become its bit 0, and it is then unsigned. The shorter vector is extended by its
+// top bit, x and z too, if both are signed, else by 0; an empty one by 0. Elsewhere, but for equality with a real, a fill is its own bits.
 typedef struct {
     uint32_t width;
     bool is_signed;
@@ -167,22 +169,22 @@ vowherunga_header_result vowherunga_from_u64(uint64_t val, uint32_t width, uint6
 
 // ---- Operators whose result is a vector: refused by 1 to 4 for the left operand, then for the right one, then by 5.
 
-// A bit is 0 if either is 0, 1 if both are 1, else x. The shorter operand is extended by 0, a fill is stretched, the result is unsigned.
+// A bit is 0 if either is 0, 1 if both are 1, else x. The result is unsigned, even of two signed operands.
 vowherunga_header_result vowherunga_bitwise_and(vowherunga_header a, const uint64_t *av, size_t av_len, const uint64_t *au, size_t au_len,
                                                 vowherunga_header b, const uint64_t *bv, size_t bv_len, const uint64_t *bu, size_t bu_len,
                                                 uint64_t *ov, size_t ov_len, uint64_t *ou, size_t ou_len);
 
-// A bit is 1 if either is 1, 0 if both are 0, else x; the rest as in vowherunga_bitwise_and.
+// A bit is 1 if either is 1, 0 if both are 0, else x. The result is unsigned.
 vowherunga_header_result vowherunga_bitwise_or(vowherunga_header a, const uint64_t *av, size_t av_len, const uint64_t *au, size_t au_len,
                                                vowherunga_header b, const uint64_t *bv, size_t bv_len, const uint64_t *bu, size_t bu_len,
                                                uint64_t *ov, size_t ov_len, uint64_t *ou, size_t ou_len);
 
-// A bit is x if either is unknown, else 1 if they differ, else 0; the rest as in vowherunga_bitwise_and.
+// A bit is x if either is unknown, else 1 if they differ, else 0. The result is unsigned.
 vowherunga_header_result vowherunga_bitwise_xor(vowherunga_header a, const uint64_t *av, size_t av_len, const uint64_t *au, size_t au_len,
                                                 vowherunga_header b, const uint64_t *bv, size_t bv_len, const uint64_t *bu, size_t bu_len,
                                                 uint64_t *ov, size_t ov_len, uint64_t *ou, size_t ou_len);
 
-// A bit stands if both are known and equal, else it is x. A fill is not stretched; signed if both are and the result has at most 64 bits.
+// A bit stands if both are known and equal, else it is x. The result is signed if both operands are and neither is a fill.
 vowherunga_header_result vowherunga_merge_unknown(vowherunga_header a, const uint64_t *av, size_t av_len, const uint64_t *au, size_t au_len,
                                                   vowherunga_header b, const uint64_t *bv, size_t bv_len, const uint64_t *bu, size_t bu_len,
                                                   uint64_t *ov, size_t ov_len, uint64_t *ou, size_t ou_len);
@@ -228,8 +230,8 @@ vowherunga_bit_result vowherunga_logic_or(bool a_is_real, vowherunga_header a, d
                                           const uint64_t *au, size_t au_len, bool b_is_real, vowherunga_header b, double b_real,
                                           const uint64_t *bv, size_t bv_len, const uint64_t *bu, size_t bu_len);
 
-// 0 if some place holds two different known bits, else x if an operand has an unknown bit, else 1. The shorter vector is extended by its top
-// bit if both are signed, else by 0; a fill is stretched. Beside a real a vector is the number of its low 64 bits.
+// 0 if some place holds two different known bits, else x if an operand has an unknown bit, else 1. Beside a real a vector is the number of its
+// low 64 bits; a fill is then stretched to the larger of 64 and its width.
 vowherunga_bit_result vowherunga_is_equal(bool a_is_real, vowherunga_header a, double a_real, const uint64_t *av, size_t av_len,
                                           const uint64_t *au, size_t au_len, bool b_is_real, vowherunga_header b, double b_real,
                                           const uint64_t *bv, size_t bv_len, const uint64_t *bu, size_t bu_len);
@@ -238,7 +240,7 @@ vowherunga_bit_result vowherunga_is_equal(bool a_is_real, vowherunga_header a, d
 vowherunga_bit_result vowherunga_equal_vectors(vowherunga_header a, const uint64_t *av, size_t av_len, const uint64_t *au, size_t au_len,
                                                vowherunga_header b, const uint64_t *bv, size_t bv_len, const uint64_t *bu, size_t bu_len);
 
-// 1 if the bits are the same, x and z too, else 0. Operands are read as in vowherunga_is_equal.
+// 1 if the bits are the same, x and z too, else 0.
 vowherunga_bit_result vowherunga_case_eq(vowherunga_header a, const uint64_t *av, size_t av_len, const uint64_t *au, size_t au_len,
                                          vowherunga_header b, const uint64_t *bv, size_t bv_len, const uint64_t *bu, size_t bu_len);
 
@@ -251,11 +253,13 @@ vowherunga_bit_result vowherunga_casex_eq(vowherunga_header a, const uint64_t *a
                                           vowherunga_header b, const uint64_t *bv, size_t bv_len, const uint64_t *bu, size_t bu_len);
 
 // Of the places where the right side is known: 0 if one holds two different known bits, else x if the left side has an unknown bit there,
-// else 1. Operands are extended as in vowherunga_is_equal; a fill is not stretched.
+// else 1.
 vowherunga_bit_result vowherunga_wildcard_eq(vowherunga_header a, const uint64_t *av, size_t av_len, const uint64_t *au, size_t au_len,
                                              vowherunga_header b, const uint64_t *bv, size_t bv_len, const uint64_t *bu, size_t bu_len);
 
-// ---- Word forms: the operators on vectors of at most 64 bits by value, without a check. Two operands are extended by 0; no fill is stretched.
+// ---- Word forms: the operators on vectors of at most 64 bits by value, without a check. They see neither widths nor marks: two operands are
+// extended by 0, and no fill is stretched. So they stand for the operators where neither operand is a fill and the two are not both signed
+// and of two widths.
 
 // vowherunga_bitwise_and.
 vowherunga_word vowherunga_and_word(vowherunga_word a, vowherunga_word b);

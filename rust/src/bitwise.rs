@@ -1,6 +1,6 @@
 //! The operators whose result is a vector. Operands are refused as in [`check_vector`](crate::value::check_vector), the left one first; then
 //! by 5 an output plane that is not exactly [`word_count`](crate::planes::word_count) words of the result. A refused call writes nothing.
-//! The result's width is that of the wider operand.
+//! Two operands are read as [`Header`] says; the result has the larger width and is no fill.
 use crate::value::header;
 use crate::{raw, Header, Refusal, Word};
 
@@ -34,8 +34,7 @@ fn of_two(
     })
 }
 
-/// A bit is 0 if either is 0, 1 if both are 1, else x. The shorter operand is extended by 0, even if signed; the result is unsigned. A fill is
-/// first stretched to the larger width.
+/// A bit is 0 if either is 0, 1 if both are 1, else x. The result is unsigned, even of two signed operands.
 #[inline]
 pub fn bitwise_and(
     a: Header,
@@ -50,7 +49,7 @@ pub fn bitwise_and(
     of_two(raw::vowherunga_bitwise_and, (a, av, au), (b, bv, bu), (ov, ou))
 }
 
-/// A bit is 1 if either is 1, 0 if both are 0, else x. Extension, fills and sign as in [`bitwise_and`].
+/// A bit is 1 if either is 1, 0 if both are 0, else x. The result is unsigned, as in [`bitwise_and`].
 #[inline]
 pub fn bitwise_or(
     a: Header,
@@ -65,7 +64,7 @@ pub fn bitwise_or(
     of_two(raw::vowherunga_bitwise_or, (a, av, au), (b, bv, bu), (ov, ou))
 }
 
-/// A bit is x if either is unknown, else 1 if they differ, else 0. Extension, fills and sign as in [`bitwise_and`].
+/// A bit is x if either is unknown, else 1 if they differ, else 0. The result is unsigned, as in [`bitwise_and`].
 #[inline]
 pub fn bitwise_xor(
     a: Header,
@@ -80,8 +79,7 @@ pub fn bitwise_xor(
     of_two(raw::vowherunga_bitwise_xor, (a, av, au), (b, bv, bu), (ov, ou))
 }
 
-/// A bit stands if both are known and equal, else it is x. The shorter operand is extended by 0, a fill too. The result is signed if both
-/// operands are and it has at most 64 bits.
+/// A bit stands if both are known and equal, else it is x. The result is signed if both operands are and neither is a fill.
 #[inline]
 pub fn merge_unknown(
     a: Header,
@@ -96,7 +94,7 @@ pub fn merge_unknown(
     of_two(raw::vowherunga_merge_unknown, (a, av, au), (b, bv, bu), (ov, ou))
 }
 
-/// 0 gives 1, 1 gives 0, x and z give x. Width and sign are kept; the result is no fill.
+/// 0 gives 1, 1 gives 0, x and z give x. Width and sign are kept; the result is no fill, and a fill is its own bits.
 #[inline]
 pub fn bitwise_not(a: Header, av: &[u64], au: &[u64], ov: &mut [u64], ou: &mut [u64]) -> Result<Header, Refusal> {
     header(unsafe {

@@ -1,11 +1,11 @@
 //! Equality, case equality and wildcard equality. An operand is refused as in [`check_vector`](crate::value::check_vector), the left one first;
-//! a real whose planes are not empty is refused by 2. The shorter operand is extended by its top bit if both are signed, else by 0.
+//! a real whose planes are not empty is refused by 2. Two vectors are read as [`Header`] says.
 use crate::reduce::{bit, of_operands};
 use crate::{raw, Header, LogicBit, Operand, Refusal};
 
-/// 0 if some place holds two different known bits, else x if an operand has an unknown bit, else 1; fills are stretched first. Beside a real a
-/// vector is the number of its low 64 bits, unknown ones taken as 0, in two's complement if it is signed, rounded to nearest, ties to even; a fill
-/// is stretched to 64 bits or its width, if that is larger. The two are then compared as IEEE 754 does.
+/// 0 if some place holds two different known bits, else x if an operand has an unknown bit, else 1. Beside a real a vector is the number of its
+/// low 64 bits, unknown ones taken as 0, in two's complement if it is signed, rounded to nearest, ties to even; a fill is stretched to 64 bits or
+/// its width, if that is larger. The two are then compared as IEEE 754 does.
 #[inline]
 pub fn is_equal(a: Operand, av: &[u64], au: &[u64], b: Operand, bv: &[u64], bu: &[u64]) -> Result<LogicBit, Refusal> {
     match (a, b) {
@@ -37,7 +37,7 @@ fn of_vectors(
     })
 }
 
-/// 1 if the bits are the same, x and z too, else 0; fills are stretched first.
+/// 1 if the bits are the same, x and z too, else 0.
 #[inline]
 pub fn case_eq(a: Header, av: &[u64], au: &[u64], b: Header, bv: &[u64], bu: &[u64]) -> Result<LogicBit, Refusal> {
     of_vectors(raw::vowherunga_case_eq, (a, av, au), (b, bv, bu))
@@ -55,8 +55,7 @@ pub fn casex_eq(a: Header, av: &[u64], au: &[u64], b: Header, bv: &[u64], bu: &[
     of_vectors(raw::vowherunga_casex_eq, (a, av, au), (b, bv, bu))
 }
 
-/// Of the places where the right side is known: 0 if one holds two different known bits, else x if the left side has an unknown bit there, else
-/// 1. A fill is not stretched.
+/// Places count where the right side is known: 0 if one holds two different known bits, else x if one holds an unknown bit on the left, else 1.
 #[inline]
 pub fn wildcard_eq(a: Header, av: &[u64], au: &[u64], b: Header, bv: &[u64], bu: &[u64]) -> Result<LogicBit, Refusal> {
     of_vectors(raw::vowherunga_wildcard_eq, (a, av, au), (b, bv, bu))

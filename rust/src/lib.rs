@@ -50,7 +50,8 @@
 //! Vectors can be read from sized literals such as `8'hzx` and written as such ([`literal`]). They can be kept as the cells of a [`store`], and a
 //! whole list of steps on them can be run from its text ([`steps::run`]).
 //!
-//! The feature `reference` adds the Rust program whose behaviour the library keeps, for comparisons; it needs that program's source.
+//! The feature `reference` adds the Rust program whose behaviour the library keeps but for what was requested since, for comparisons; it needs
+//! that program's source.
 mod bit;
 pub mod bitwise;
 pub mod compare;

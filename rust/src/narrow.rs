@@ -57,8 +57,8 @@ impl Narrow {
         self.bits
     }
 
-    /// Whether there is no fill that an operator may stretch and no sign that it may extend by: then its word form, which sees neither widths
-    /// nor marks, gives its answer. One test for all operators of two; which of them stretch or extend is told in the crate `extension` alone.
+    /// Whether an operator reads the two as they stand: neither is a fill, and they are not both signed and of two widths. Then its word form,
+    /// which sees neither widths nor marks, gives its answer.
     #[inline(always)]
     fn is_plain_beside(self, other: Narrow) -> bool {
         let (a, b) = (self.header, other.header);
@@ -103,7 +103,8 @@ impl Narrow {
     /// [`bitwise::merge_unknown`]
     #[inline]
     pub fn merge_unknown(self, other: Narrow) -> Narrow {
-        let is_signed = self.header.is_signed & other.header.is_signed;
+        let (a, b) = (self.header, other.header);
+        let is_signed = a.is_signed & b.is_signed & !(a.is_fill | b.is_fill);
         self.join(other, is_signed, raw::vowherunga_merge_word, bitwise::merge_unknown)
     }
 

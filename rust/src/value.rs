@@ -3,8 +3,11 @@
 //! [`word_count`](crate::planes::word_count) words of the width is refused by 5, and nothing is written.
 use crate::{raw, LogicBit, ParseError, Refusal, MAX_WIDTH};
 
-/// A vector's width and marks; its planes come beside it. In and, or, xor, equality and the case forms a fill is stretched: at the larger width all
-/// its bits become its bit 0. Elsewhere, in merge and wildcard equality too, it is its own bits.
+/// A vector's width and marks; its planes come beside it.
+///
+/// Every operator of two vectors (and, or, xor, merge, equality, the case forms, wildcard equality) reads them alike, at the larger width. A fill
+/// is stretched: all its bits become its bit 0, and it is then unsigned. The shorter vector is extended by its top bit, x and z too, if both are
+/// signed, else by 0; an empty one by 0. Elsewhere, but for equality with a real, a fill is its own bits.
 #[repr(C)]
 #[derive(Clone, Copy, Debug, Default, PartialEq, Eq, Hash)]
 pub struct Header {

@@ -1,4 +1,4 @@
-//! The committed tables of the reference's answers are those that the command in crates/worked_cases/src/main.rt makes.
+//! The committed tables of answers are those that the command in crates/worked_cases/src/main.rt makes.
 use std::{fs, path::Path};
 use vowherunga::reference::answers::{tables, TABLES};
 

@@ -10,6 +10,8 @@ static int failed = 0;
 static const vowherunga_header none = {0, false, false};
 static const vowherunga_header four = {4, false, false};
 static const vowherunga_header signed_one = {1, true, false};
+static const vowherunga_header signed_two = {2, true, false};
+static const vowherunga_header fill_one = {1, false, true};
 
 // Bits and words of 01xz with a z put above it.
 static void planes(void)
@@ -27,7 +29,7 @@ static void planes(void)
     EXPECT(vowherunga_check_vector((vowherunga_header){2, true, true}, u, 1, v + 1, 1) == 0);
 }
 
-// 01xz and 1111; a signed 1, whose header comes back; a real.
+// 01xz and 1111; a signed 1, whose header comes back and which is extended beside a signed 00; a fill; a real.
 static void operators(void)
 {
     const uint64_t av[1] = {5}, au[1] = {3}, bv[1] = {15}, bu[1] = {0}, one[1] = {1};
@@ -39,6 +41,10 @@ static void operators(void)
     EXPECT(h.refusal == VOWHERUNGA_REFUSAL_OUTPUT_LENGTH && h.width == 0 && ov[0] == 4);
     h = vowherunga_merge_unknown(signed_one, one, 1, bu, 1, signed_one, one, 1, bu, 1, ov, 1, ou, 1);
     EXPECT(h.refusal == 0 && h.width == 1 && h.is_signed && !h.is_fill && ov[0] == 1 && ou[0] == 0);
+    h = vowherunga_bitwise_or(signed_one, one, 1, bu, 1, signed_two, bu, 1, bu, 1, ov, 1, ou, 1);
+    EXPECT(h.refusal == 0 && h.width == 2 && !h.is_signed && !h.is_fill && ov[0] == 3 && ou[0] == 0);
+    h = vowherunga_merge_unknown(four, bv, 1, bu, 1, fill_one, one, 1, bu, 1, ov, 1, ou, 1);
+    EXPECT(h.refusal == 0 && h.width == 4 && !h.is_signed && !h.is_fill && ov[0] == 15 && ou[0] == 0);
     h = vowherunga_from_real_wrapped(2.5, 4, ov, 1, ou, 1);
     EXPECT(h.refusal == 0 && h.width == 4 && ov[0] == 3 && ou[0] == 0);
 
@@ -50,6 +56,8 @@ static void operators(void)
     EXPECT(bit.refusal == 0 && bit.bit == VOWHERUNGA_BIT_ONE);
     bit = vowherunga_wildcard_eq(four, av, 1, au, 1, four, av, 1, bu, 1);
     EXPECT(bit.refusal == 0 && bit.bit == VOWHERUNGA_BIT_X);
+    bit = vowherunga_wildcard_eq(four, bv, 1, bu, 1, fill_one, one, 1, bu, 1);
+    EXPECT(bit.refusal == 0 && bit.bit == VOWHERUNGA_BIT_ONE);
 
     vowherunga_word word = vowherunga_and_word((vowherunga_word){5, 3}, (vowherunga_word){15, 0});
     EXPECT(word.value == 4 && word.unknown == 3);

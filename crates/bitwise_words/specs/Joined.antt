@@ -1,8 +1,8 @@
--- Two vectors joined place by place, and not of one, with the header of each result: document 01, "Result vector" (IEEE 1800-2017, 11.4.8 and 11.4.11).
-use mathlib.Core.Bool.{Bool, false, _&&_}
+-- Two vectors joined place by place, and not of one, with the header of each result: document 01, "Result vector", and document 02, point 2 (IEEE
+-- 1800-2017, 11.4.8 and 11.4.11; 11.8.1 for the sign of merge).
+use mathlib.Core.Bool.{Bool, false}
 use mathlib.Core.List.{List}
 use Prim.Native.Nat.{ℕ}
-use lib.Dec.{leb}
 use lib.ListN.{length, getD}
 use Rattle.bit.specs.declared.LogicBit.{LogicBit}
 use Rattle.bit.specs.Rules.{notBit}
@@ -12,19 +12,10 @@ use Rattle.words.specs.Planes.{Planes, wordBy}
 use Rattle.value.specs.declared.Header.{Header}
 use Rattle.value.specs.Checks.{Vector}
 use Rattle.extension.specs.declared.Extent.{Extent}
-use Rattle.extension.specs.declared.Operator.{Operator}
-use Rattle.extension.specs.declared.Operator.the-variants as operator-of
-use Rattle.extension.specs.Extension.{largerWidth, operandAt, extentAt}
+use Rattle.extension.specs.Extension.{largerWidth, bothSigned, operandAt, extentAt}
 use Rattle.lanes.specs.Lanes.{opBit, laneWord}
 use Rattle.lanes.specs.declared.Bitwise.{Bitwise}
 use Rattle.lanes.specs.declared.Bitwise.the-variants.{And, Or, Xor, Merge}
-
--- the row of the tables by which the operands are read
-abbrev pub operator : Bitwise → Operator
-operator And = operator-of.And
-operator Or = operator-of.Or
-operator Xor = operator-of.Xor
-operator Merge = operator-of.Merge
 
 -- word k of two pairs of planes, joined at each of its 64 places (document 01, "Planes")
 abbrev pub joinedWord : Bitwise → Planes → Planes → ℕ → Word
@@ -41,7 +32,7 @@ joinedOver op w a p b q =
 abbrev pub joined : Bitwise → Vector → Vector → List LogicBit
 joined op a b =
     tabulate (largerWidth (a .header) (b .header))
-    (λ i. opBit op (operandAt (operator op) a (b .header) i) (operandAt (operator op) b (a .header) i))
+    (λ i. opBit op (operandAt a (b .header) i) (operandAt b (a .header) i))
 
 -- 0 and 1 exchanged, x and z give x
 abbrev pub inverted : List LogicBit → List LogicBit
@@ -49,12 +40,12 @@ inverted bs = tabulate (length bs) (λ i. notBit (at bs i))
 
 -- ---- the header of a result
 
--- and, or and xor are unsigned; merge is signed if both are signed and the larger width is at most 64
+-- and, or and xor are unsigned; merge is signed if both operands are read as signed
 abbrev pub resultSigned : Bitwise → Header → Header → Bool
 resultSigned And a b = false
 resultSigned Or a b = false
 resultSigned Xor a b = false
-resultSigned Merge a b = leb (largerWidth a b) 64 && (a .«is_signed» && b .«is_signed»)
+resultSigned Merge a b = bothSigned a b
 
 -- no result is a fill
 abbrev pub resultHeader : Bitwise → Header → Header → Header

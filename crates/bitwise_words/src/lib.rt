@@ -1,4 +1,5 @@
 // Two vectors joined place by place, and not of one, into lent planes, and the header of two vectors joined.
+use extension::both_signed;
 use extension::larger;
 use lanes::Bitwise;
 use value::Header;
@@ -17,7 +18,7 @@ pub fn result_header(op: Bitwise, a: Header, b: Header) -> Header
         Bitwise::And | Bitwise::Or | Bitwise::Xor => plain_header(width),
         Bitwise::Merge => Header {
             width: width,
-            is_signed: (width <= 64) & (a.is_signed & b.is_signed),
+            is_signed: both_signed(a, b),
             is_fill: false,
         },
     }

@@ -1,7 +1,6 @@
 // The work behind the operators: fills are settled first, then words joined by lanes, straight from the planes where both operands have
 // whole words, and through the reader of extended operands behind those. These ask their caller for accepted operands.
 use extension::Extent;
-use extension::Operator;
 use extension::unchecked::extent;
 use lanes::Bitwise;
 use lanes::lanes;
@@ -18,7 +17,6 @@ ghost use Rattle.words.specs.Vector.{FilledTo};
 ghost use Rattle.words.specs.Planes.{wordCount, fromPlanes, lentBy, planesOf, Plane};
 ghost use Rattle.value.specs.Checks.{vector};
 ghost use Rattle.extension.specs.Extension.{Covers};
-ghost use Rattle.bitwise_words.specs.Joined as joined;
 ghost use Rattle.bitwise_words.specs.Joined.{joinedWord, joinedOver, joined, inverted};
 
 // One operator on the first n words.
@@ -88,18 +86,6 @@ fn join_whole(
     }
 }
 
-// The row of the tables by which the operands are read.
-fn operator(op: Bitwise) -> Operator
-    ensures { λ r. ⌜ r ≡ joined.operator op ⌝ }
-{
-    match op {
-        Bitwise::And => Operator::And,
-        Bitwise::Or => Operator::Or,
-        Bitwise::Xor => Operator::Xor,
-        Bitwise::Merge => Operator::Merge,
-    }
-}
-
 // The operator on two settled operands, at a width that neither passes. The bits of each are those of its planes below its extent's width,
 // and the extent's bit at each place from there on.
 fn join_extents(
@@ -157,9 +143,8 @@ pub fn join_planes(
         ≡ planesOf
         (joined op (vector a (lentBy (av .entry) (au .entry))) (vector b (lentBy (bv .entry) (bu .entry)))) ⌝ }
 {
-    let t = operator(op);
-    let x = extent(t, a, av, au, b);
-    let y = extent(t, b, bv, bu, a);
+    let x = extent(a, av, au, b);
+    let y = extent(b, bv, bu, a);
     join_extents(op, x, av, au, y, bv, bu, width, ov, ou)
 }
 

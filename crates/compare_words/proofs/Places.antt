@@ -25,7 +25,7 @@ use Rattle.extension.specs.Extension.{largerWidth, operandAt}
 use Rattle.compare_words.specs.declared.Comparison.{Comparison}
 use Rattle.compare_words.specs.declared.Comparison.the-variants.{Equal, CaseEqual, CasezEqual, CasexEqual, WildcardEqual}
 use Rattle.compare_words.specs.declared.Found.the-variants.{Mismatch, Unsure, Same}
-use Rattle.compare_words.specs.Compared.{operator, mismatch, unsure, onPair, decided, compared, lowest, found, foundBit}
+use Rattle.compare_words.specs.Compared.{mismatch, unsure, onPair, decided, compared, lowest, found, foundBit}
 
 -- what stands at each place beyond the width
 abbrev pub zeros : LogicBit × LogicBit
@@ -141,6 +141,6 @@ module _ (n : ℕ) (f g : ℕ → LogicBit) where
 pub compared-and : (a b : Vector) → compared Equal a b
     ≡ reduceAnd
     (tabulate (largerWidth (a .header) (b .header))
-    (λ i. notBit (xorBit (operandAt (operator Equal) a (b .header) i) (operandAt (operator Equal) b (a .header) i))))
+    (λ i. notBit (xorBit (operandAt a (b .header) i) (operandAt b (a .header) i))))
 compared-and a b =
-    equal-and (largerWidth (a .header) (b .header)) (operandAt (operator Equal) a (b .header)) (operandAt (operator Equal) b (a .header))
+    equal-and (largerWidth (a .header) (b .header)) (operandAt a (b .header)) (operandAt b (a .header))

@@ -13,22 +13,12 @@ use Rattle.words.specs.Planes.{Planes, bitOf}
 use Rattle.value.specs.Checks.{Vector}
 use Rattle.reduce_words.specs.Fold.{anyOf}
 use Rattle.extension.specs.declared.Extent.{Extent}
-use Rattle.extension.specs.declared.Operator.{Operator}
-use Rattle.extension.specs.declared.Operator.the-variants as operator-of
 use Rattle.extension.specs.Extension.{largerWidth, operandAt, extentAt}
 use Rattle.compare_words.specs.declared.Comparison.{Comparison}
 use Rattle.compare_words.specs.declared.Comparison.the-variants.{Equal, CaseEqual, CasezEqual, CasexEqual, WildcardEqual}
 use Rattle.compare_words.specs.declared.Found.{Found}
 use Rattle.compare_words.specs.declared.Found.the-variants.{Mismatch, Unsure, Same}
 use Rattle.compare_words.specs.declared.unchecked.Marks.{Marks}
-
--- the row of the tables by which the operands are read
-abbrev pub operator : Comparison → Operator
-operator Equal = operator-of.Equal
-operator CaseEqual = operator-of.CaseEqual
-operator CasezEqual = operator-of.CasezEqual
-operator CasexEqual = operator-of.CasexEqual
-operator WildcardEqual = operator-of.WildcardEqual
 
 -- ---- one place
 
@@ -65,13 +55,11 @@ abbrev pub decided : Comparison → List (LogicBit × LogicBit) → LogicBit
 decided op ps = cond (anyOf (onPair (mismatch op)) ps) Zero (cond (anyOf (onPair (unsure op)) ps) X One)
 
 -- the two bits at each place of the larger width
-abbrev pub places : Comparison → Vector → Vector → List (LogicBit × LogicBit)
-places op a b =
-    tabulate (largerWidth (a .header) (b .header))
-    (λ i. (operandAt (operator op) a (b .header) i, operandAt (operator op) b (a .header) i))
+abbrev pub places : Vector → Vector → List (LogicBit × LogicBit)
+places a b = tabulate (largerWidth (a .header) (b .header)) (λ i. (operandAt a (b .header) i, operandAt b (a .header) i))
 
 abbrev pub compared : Comparison → Vector → Vector → LogicBit
-compared op a b = decided op (places op a b)
+compared op a b = decided op (places a b)
 
 -- ---- what a scan finds: document 01, "Answer bit", and "Which places take which form" (the scan is left at the first known mismatch)
 

@@ -4,7 +4,6 @@ use crate::Comparison;
 use crate::Found;
 use bit::LogicBit;
 use extension::Extent;
-use extension::Operator;
 use value::Header;
 use words::Word;
 use words::unchecked::kept;
@@ -17,26 +16,12 @@ ghost use lib.ListN.{length};
 ghost use Rattle.words.specs.Planes.{wordAt, lentBy, Plane};
 ghost use Rattle.value.specs.Checks.{vector};
 ghost use Rattle.extension.specs.Extension.{extentAt, Covers};
-ghost use Rattle.compare_words.specs.Compared as compared;
 ghost use Rattle.compare_words.specs.Compared.{decided, found, compared, placesOver, wordPlaces, marksOf, cutMarks, unlike};
 
 // The 64 places of a word of each operand: a one where they mismatch, and a one where an unknown bit leaves the answer in doubt.
 struct Marks {
     apart: u64,
     doubt: u64,
-}
-
-// The row of the tables by which the operands are read.
-fn operator(op: Comparison) -> Operator
-    ensures { λ r. ⌜ r ≡ compared.operator op ⌝ }
-{
-    match op {
-        Comparison::Equal => Operator::Equal,
-        Comparison::CaseEqual => Operator::CaseEqual,
-        Comparison::CasezEqual => Operator::CasezEqual,
-        Comparison::CasexEqual => Operator::CasexEqual,
-        Comparison::WildcardEqual => Operator::WildcardEqual,
-    }
 }
 
 // The places of one word of each operand.
@@ -221,9 +206,8 @@ pub fn compare(
     ensures { λ r. ⌜ r
         ≡ compared op (vector a (lentBy (av .entry) (au .entry))) (vector b (lentBy (bv .entry) (bu .entry))) ⌝ }
 {
-    let t = operator(op);
-    let x = extension::unchecked::extent(t, a, av, au, b);
-    let y = extension::unchecked::extent(t, b, bv, bu, a);
+    let x = extension::unchecked::extent(a, av, au, b);
+    let y = extension::unchecked::extent(b, bv, bu, a);
     let width = extension::larger(a.width, b.width);
     crate::found_bit(scan_extents(op, x, av, au, y, bv, bu, width))
 }

@@ -4,23 +4,24 @@
 --     no-top                            the top bit of a vector that has none is 0
 --     extent-narrow                     it is no wider than the operand
 --     settled                           two operands put together as their extents say
-use mathlib.Core.Path.{_≡_, refl, sym, ap, ap₂, _∙_}
+--     inside, read-plain                an operand that is no fill is read as it stands, but for a top bit that extends it
+use mathlib.Core.Path.{_≡_, refl, ap, ap₂, _∙_}
 use mathlib.Core.Bool.{Bool, true, false, not, _&&_, cond}
-use mathlib.Core.List.{List}
-use Prim.Native.Nat.{ℕ, _≤_, max}
+use mathlib.Core.List.{List, [], _∷_}
+use Prim.Native.Nat.{ℕ, zero, suc, _≤_, _<_, max}
+use native.Mathlib.Nat.{not-suc-le-zero, le-of-suc-le-suc}
 use native.Mathlib.Omega.{arith}
 use borrow.Author.Tests.{not-false, eqb-true}
-use lib.Dec.{eqb}
-use lib.ListN.{getD}
+use lib.Dec.{T, eqb}
+use lib.ListN.{length, getD}
 use Rattle.bit.specs.declared.LogicBit.{LogicBit}
 use Rattle.bit.specs.declared.LogicBit.the-variants.{Zero}
 use Rattle.words.specs.Vector.{at, tabulate}
 use Rattle.words.specs.Planes.{fromPlanes, Planes, lent}
 use Rattle.value.specs.declared.Header.{Header}
 use Rattle.extension.specs.declared.Extent.{Extent}
-use Rattle.extension.specs.declared.Operator.{Operator}
 use Rattle.value.specs.Checks.{Vector, vector}
-use Rattle.extension.specs.Extension.{stretches, extendsByTop, top, stretched, signedFor, extension, operandAt, extentOf, extentAt}
+use Rattle.extension.specs.Extension.{top, bothSigned, extension, operandAt, extentOf, extentAt}
 
 abbrev pub extentOver : ℕ → LogicBit → Extent
 extentOver w b = record { width = w; beyond = b }
@@ -36,37 +37,18 @@ by-cases true w first beyond v u i = refl
 by-cases false w first beyond v u i = refl
 
 -- the bit that an extent has at place i, over the operand's planes
-pub extent-at : (op : Operator) (a b : Header) (v u : List ℕ) (i : ℕ)
-    → getD (fromPlanes (extentOf op (vector a (lent v u)) b .width) v u) i (extentOf op (vector a (lent v u)) b .beyond) ≡ operandAt op (vector a (lent v u)) b i
-extent-at op a b v u i = by-cases (stretched op a) (a .width) (at (fromPlanes (a .width) v u) 0) (extension op (vector a (lent v u)) b) v u i
+pub extent-at : (a b : Header) (v u : List ℕ) (i : ℕ)
+    → getD (fromPlanes (extentOf (vector a (lent v u)) b .width) v u) i (extentOf (vector a (lent v u)) b .beyond) ≡ operandAt (vector a (lent v u)) b i
+extent-at a b v u i = by-cases (a .«is_fill») (a .width) (at (fromPlanes (a .width) v u) 0) (extension (vector a (lent v u)) b) v u i
 
--- whether two operands are extended by their top bits, as the code tests it: by what is told of the operator
-abbrev pub byTop : Bool → Bool → Header → Header → Bool
-byTop s e a b = ((e && a .«is_signed») && b .«is_signed») && not (b .«is_fill» && s)
+module _ (a : Vector) (b : Header) where
+  pub extent-stretched : a .header .«is_fill» ≡ true → extentOf a b ≡ extentOver 0 (at (a .bits) 0)
+  extent-stretched h = ap (λ (s : Bool). extentBy s (a .header .width) (at (a .bits) 0) (extension a b)) h
 
-signed-by : (e s g t : Bool) → e && (s && (not g && t)) ≡ ((e && s) && t) && not g
-signed-by false s g t = refl
-signed-by true false g t = refl
-signed-by true true true true = refl
-signed-by true true true false = refl
-signed-by true true false true = refl
-signed-by true true false false = refl
-
-module _ (op : Operator) (a : Vector) (b : Header) (s e : Bool) (hs : s ≡ stretches op) (he : e ≡ extendsByTop op) where
-  pub extent-stretched : a .header .«is_fill» && s ≡ true → extentOf op a b ≡ extentOver 0 (at (a .bits) 0)
-  extent-stretched h =
-      ap (λ (s : Bool). extentBy s (a .header .width) (at (a .bits) 0) (extension op a b)) (ap (λ (s : Bool). a .header .«is_fill» && s) (sym hs) ∙ h)
-
-  pub extent-plain : a .header .«is_fill» && s ≡ false → (z : Bool) → byTop s e (a .header) b ≡ z
-      → extentOf op a b ≡ extentOver (a .header .width) (cond z (top (a .bits)) Zero)
+  pub extent-plain : a .header .«is_fill» ≡ false → (z : Bool) → bothSigned (a .header) b ≡ z
+      → extentOf a b ≡ extentOver (a .header .width) (cond z (top (a .bits)) Zero)
   extent-plain h z k =
-      let f = ap (λ (s : Bool). a .header .«is_fill» && s) (sym hs) ∙ h in
-      ap (λ (s : Bool). extentBy s (a .header .width) (at (a .bits) 0) (extension op a b)) f
-      ∙ ap (λ (s : Bool). extentOver (a .header .width) (cond s (top (a .bits)) Zero))
-      (ap (λ (f : Bool). extendsByTop op && ((not f && a .header .«is_signed») && signedFor op b)) f
-      ∙ signed-by (extendsByTop op) (a .header .«is_signed») (stretched op b) (b .«is_signed»)
-      ∙ ap₂ (λ (s e : Bool). byTop s e (a .header) b) (sym hs) (sym he)
-      ∙ k)
+      ap₂ (λ (s z : Bool). extentBy s (a .header .width) (at (a .bits) 0) (cond z (top (a .bits)) Zero)) h k
 
 pub no-top : (z : Bool) (w : ℕ) (v u : List ℕ) → z && not (eqb w 0) ≡ false → cond z (top (fromPlanes w v u)) Zero ≡ Zero
 unfolding tabulate
@@ -78,18 +60,33 @@ narrow-by : (s : Bool) (w : ℕ) (first beyond : LogicBit) → extentBy s w firs
 narrow-by true w first beyond = omega arith
 narrow-by false w first beyond = omega arith
 
-pub extent-narrow : (op : Operator) (a b : Header) (p : Planes) {x : Extent} → x ≡ extentOf op (vector a p) b → x .width ≤ a .width
-extent-narrow op a b p e = rw e (narrow-by (stretched op a) (a .width) (at (vector a p .bits) 0) (extension op (vector a p) b))
+pub extent-narrow : (a b : Header) (p : Planes) {x : Extent} → x ≡ extentOf (vector a p) b → x .width ≤ a .width
+extent-narrow a b p e = rw e (narrow-by (a .«is_fill») (a .width) (at (vector a p .bits) 0) (extension (vector a p) b))
 
--- two operands put together place by place as their extents say, at the larger width: so they are as the operator reads them
-module _ {A : Type 0} (f : LogicBit → LogicBit → A) (op : Operator) (a b : Header) (av au bv bu : List ℕ) where
-  pub settled : {t : Operator} → t ≡ op → {x y : Extent} → x ≡ extentOf t (vector a (lent av au)) b → y ≡ extentOf t (vector b (lent bv bu)) a
+-- two operands put together place by place as their extents say, at the larger width: so they are as every operator reads them
+module _ {A : Type 0} (f : LogicBit → LogicBit → A) (a b : Header) (av au bv bu : List ℕ) where
+  pub settled : {x y : Extent} → x ≡ extentOf (vector a (lent av au)) b → y ≡ extentOf (vector b (lent bv bu)) a
       → (w : ℕ) → w ≡ max (a .width) (b .width)
       → tabulate w (λ i. f (extentAt x (lent av au) i) (extentAt y (lent bv bu) i))
-      ≡ tabulate (max (a .width) (b .width)) (λ i. f (operandAt op (vector a (lent av au)) b i) (operandAt op (vector b (lent bv bu)) a i))
-  settled e hx hy w hw =
-      ap₂ (λ (x y : Extent). tabulate w (λ i. f (extentAt x (lent av au) i) (extentAt y (lent bv bu) i)))
-      (hx ∙ ap (λ (t : Operator). extentOf t (vector a (lent av au)) b) e)
-      (hy ∙ ap (λ (t : Operator). extentOf t (vector b (lent bv bu)) a) e)
-      ∙ (λ k. tabulate w (λ i. f (extent-at op a b av au i k) (extent-at op b a bv bu i k)))
-      ∙ ap (λ (n : ℕ). tabulate n (λ i. f (operandAt op (vector a (lent av au)) b i) (operandAt op (vector b (lent bv bu)) a i))) hw
+      ≡ tabulate (max (a .width) (b .width)) (λ i. f (operandAt (vector a (lent av au)) b i) (operandAt (vector b (lent bv bu)) a i))
+  settled hx hy w hw =
+      ap₂ (λ (x y : Extent). tabulate w (λ i. f (extentAt x (lent av au) i) (extentAt y (lent bv bu) i))) hx hy
+      ∙ (λ k. tabulate w (λ i. f (extent-at a b av au i k) (extent-at b a bv bu i k)))
+      ∙ ap (λ (n : ℕ). tabulate n (λ i. f (operandAt (vector a (lent av au)) b i) (operandAt (vector b (lent bv bu)) a i))) hw
+
+-- ---- an operand that is no fill
+
+pub inside : (bs : List LogicBit) (i : ℕ) (d : LogicBit) → i < length bs → getD bs i d ≡ at bs i
+inside [] i d h = absurd (not-suc-le-zero h)
+inside (x ∷ xs) zero d h = refl
+inside (x ∷ xs) (suc i) d h = inside xs i d (le-of-suc-le-suc h)
+
+-- it is read as it stands, with 0 from its width on, if it is not extended by its top bit, and below its width
+pub read-plain : (a : Vector) (b : Header) (i : ℕ) → T (not (a .header .«is_fill»)) → (T (bothSigned (a .header) b) → i < length (a .bits))
+    → operandAt a b i ≡ at (a .bits) i
+read-plain a b i = go (a .header .«is_fill») (bothSigned (a .header) b)
+  where
+    go : (f z : Bool) → T (not f) → (T z → i < length (a .bits)) → cond f (at (a .bits) 0) (getD (a .bits) i (cond z (top (a .bits)) Zero)) ≡ at (a .bits) i
+    go true z n h = absurd n
+    go false true n h = inside (a .bits) i (top (a .bits)) (h tt)
+    go false false n h = refl

@@ -1,24 +1,12 @@
-// How an operator of two operands reads each of them: extended to the larger width, a fill stretched or not. Which operator asks for what
-// is told by two tables, and nowhere else.
+// How every operator of two operands reads each of them: extended to the larger width, by the top bit where both are signed, and a fill
+// stretched.
 use bit::LogicBit;
+use value::Header;
 ghost use mathlib.Core.Path.{_≡_};
 ghost use Prim.Native.Nat.{max};
-ghost use Rattle.extension.specs.Extension as table;
+ghost use Rattle.extension.specs.Extension.{bothSigned};
 
 pub mod unchecked;
-
-// Operators that take two operands side by side.
-pub enum Operator {
-    And,
-    Or,
-    Xor,
-    Merge,
-    Equal,
-    CaseEqual,
-    CasezEqual,
-    CasexEqual,
-    WildcardEqual,
-}
 
 // An operand at any place: below the width its planes' bits, from there on the bit `beyond`.
 pub struct Extent {
@@ -33,32 +21,9 @@ pub fn larger(a: u32, b: u32) -> u32
     if a < b { b } else { a }
 }
 
-// Whether the operator first stretches a fill: all its bits become its bit 0, and it is then unsigned.
-pub fn stretches(op: Operator) -> bool
-    ensures { λ r. ⌜ r ≡ table.stretches op ⌝ }
+// Whether both operands are read as signed. A fill is not: it is stretched, and is then unsigned.
+pub fn both_signed(a: Header, b: Header) -> bool
+    ensures { λ r. ⌜ r ≡ bothSigned a b ⌝ }
 {
-    match op {
-        Operator::And
-        | Operator::Or
-        | Operator::Xor
-        | Operator::Equal
-        | Operator::CaseEqual
-        | Operator::CasezEqual
-        | Operator::CasexEqual => true,
-        Operator::Merge | Operator::WildcardEqual => false,
-    }
-}
-
-// Whether the operator extends two signed operands by their top bits; else the extension is 0.
-pub fn extends_by_top(op: Operator) -> bool
-    ensures { λ r. ⌜ r ≡ table.extendsByTop op ⌝ }
-{
-    match op {
-        Operator::And | Operator::Or | Operator::Xor | Operator::Merge => false,
-        Operator::Equal
-        | Operator::CaseEqual
-        | Operator::CasezEqual
-        | Operator::CasexEqual
-        | Operator::WildcardEqual => true,
-    }
+    (!a.is_fill & a.is_signed) & (!b.is_fill & b.is_signed)
 }

@@ -1,6 +1,5 @@
 // How an operand is read beside another. These ask their caller for planes of the right length.
 use crate::Extent;
-use crate::Operator;
 use bit::LogicBit;
 use value::Header;
 ghost use mathlib.Core.Path.{_≡_};
@@ -9,16 +8,14 @@ ghost use Rattle.words.specs.Planes.{wordCount, lentBy};
 ghost use Rattle.value.specs.Checks.{vector};
 ghost use Rattle.extension.specs.Extension.{extentOf};
 
-// How the operator reads the operand a beside one with the header b. A fill that is stretched is unsigned, so neither is then extended by
-// its top bit.
-pub fn extent(op: Operator, a: Header, value: &[u64], unknown: &[u64], b: Header) -> Extent
+// How the operand a is read beside one with the header b.
+pub fn extent(a: Header, value: &[u64], unknown: &[u64], b: Header) -> Extent
     requires { ⌜ (length (now value) ≡ wordCount (a .width)) × (length (now unknown) ≡ wordCount (a .width)) ⌝ }
-    ensures { λ r. ⌜ r ≡ extentOf op (vector a (lentBy (value .entry) (unknown .entry))) b ⌝ }
+    ensures { λ r. ⌜ r ≡ extentOf (vector a (lentBy (value .entry) (unknown .entry))) b ⌝ }
 {
     let width = a.width;
-    let stretches = crate::stretches(op);
-    let by_top = crate::extends_by_top(op) & a.is_signed & b.is_signed & !(b.is_fill & stretches);
-    if a.is_fill & stretches {
+    let by_top = crate::both_signed(a, b);
+    if a.is_fill {
         Extent {
             width: 0,
             beyond: bits::unchecked::get(width, value, unknown, 0),

@@ -1,51 +1,42 @@
 -- The equality of two operands, as a form: the and of all places, each by whether its bits are the same.
---     operand-inside  an operand that is no fill is read as it stands below its width
 --     Paired          operands in order of which neither is a fill, and which are of equal width if both are signed
 --     of-equal        equality is exact where its operands are paired
 use mathlib.Core.Path.{_≡_, refl, sym, _∙_, subst, ap, ap₂}
-use mathlib.Core.Bool.{Bool, true, false, not, _&&_, cond}
+use mathlib.Core.Bool.{not}
 use mathlib.Core.Logic.{⊎-elim}
 use mathlib.Core.List.{foldr}
 use Prim.Native.Nat.{ℕ, zero, suc, _<_, _≤_}
 use native.Mathlib.Omega.{arith}
 use lib.Dec.{T}
-use lib.ListN.{length, getD, List·getD-eq-default}
+use lib.ListN.{length, List·getD-eq-default}
 use Rattle.bit.specs.declared.LogicBit.{LogicBit}
 use Rattle.bit.specs.declared.LogicBit.the-variants.{Zero, One, X}
 use Rattle.bit.specs.Rules.{andBit}
+use Rattle.bit.proofs.Tests.{and-left, and-right}
 use Rattle.words.specs.Vector.{tabulate, at}
 use Rattle.words.proofs.Digits.{lt-or-ge}
 use Rattle.words.proofs.Planes.{length-tabulate, getD-tabulate, getD-tabulate-out, eq-tabulate}
 use Rattle.value.specs.declared.Header.{Header}
 use Rattle.value.specs.Checks.{Vector}
-use Rattle.extension.specs.declared.Operator.{Operator}
-use Rattle.extension.specs.declared.Operator.the-variants as operator
-use Rattle.extension.specs.Extension.{largerWidth, extension, operandAt, stretches, top}
+use Rattle.extension.specs.Extension.{largerWidth, readSigned, bothSigned, operandAt}
+use Rattle.extension.proofs.Extension.{read-plain}
 use Rattle.reduce_words.proofs.Folds.{and-fold}
 use Rattle.compare_words.specs.declared.Comparison.the-variants as comparison
 use Rattle.compare_words.specs.Compared.{compared}
 use Rattle.compare_words.proofs.Places.{compared-and}
 use Rattle.knownness.specs.Knownness.{Known, Keeps, Completes, Pointwise, Comparable}
 use Rattle.knownness.proofs.Bits.{sameBit, exact-and, exact-same, keeps-refl}
-use Rattle.knownness.proofs.Readings.{KnownBits, made, made-completes, a-completion, of-operand, inside, fold-mono, fold-known}
+use Rattle.knownness.proofs.Readings.{KnownBits, made, made-completes, a-completion, of-operand, fold-mono, fold-known}
 use Rattle.knownness.proofs.Forms.{Form, Realized, Mono, ExactForm, of-two}
-
-pub operand-inside : (op : Operator) (a : Vector) (b : Header) (i : ℕ) → T (not (a .header .«is_fill»)) → i < length (a .bits)
-    → operandAt op a b i ≡ at (a .bits) i
-operand-inside op a b i n l = go (a .header .«is_fill») n ∙ inside (a .bits) i (extension op a b) l
-  where
-    go : (z : Bool) → T (not z) → cond (z && stretches op) (at (a .bits) 0) (getD (a .bits) i (extension op a b)) ≡ getD (a .bits) i (extension op a b)
-    go true n = absurd n
-    go false n = refl
 
 -- place i of an equality
 abbrev sameAt : ℕ → Form
-sameAt i t a b c = sameBit (operandAt operator.Equal a (b .header) i) (operandAt operator.Equal b (a .header) i)
+sameAt i t a b c = sameBit (operandAt a (b .header) i) (operandAt b (a .header) i)
 
 of-same : (i : ℕ) → ExactForm (λ a b c. Unit) (sameAt i)
 of-same i =
-    of-two (λ a b c. Unit) (λ s t. sameBit) (λ s. exact-same) (λ s a. operandAt operator.Equal a (s .right) i) (λ s b. operandAt operator.Equal b (s .left) i)
-    (λ s. of-operand operator.Equal (s .right) i) (λ s. of-operand operator.Equal (s .left) i)
+    of-two (λ a b c. Unit) (λ s t. sameBit) (λ s. exact-same) (λ s a. operandAt a (s .right) i) (λ s b. operandAt b (s .left) i)
+    (λ s. of-operand (s .right) i) (λ s. of-operand (s .left) i)
 
 -- as the and of all places
 equal-fold : (t : LogicBit) (a b c : Vector)
@@ -89,18 +80,12 @@ pub record Paired (a b : Vector) : Type 0 where
   pub right : length (b .bits) ≡ b .header .width
   pub comparable : Comparable (a .header) (b .header)
 
--- an operand that is no fill is read as it stands, with 0 from its width on, below its width and where it is not extended by its top bit
-operand-read : (a : Vector) (b : Header) (i : ℕ) → T (not (a .header .«is_fill»)) → T (not (b .«is_fill»))
-    → (T (a .header .«is_signed») → T (b .«is_signed») → i < length (a .bits)) → operandAt operator.Equal a b i ≡ at (a .bits) i
-operand-read a b i = go (a .header .«is_fill») (a .header .«is_signed») (b .«is_fill») (b .«is_signed»)
-  where
-    go : (f s g t : Bool) → T (not f) → T (not g) → (T s → T t → i < length (a .bits))
-        → cond (f && true) (at (a .bits) 0) (getD (a .bits) i (cond ((not (f && true) && s) && (not (g && true) && t)) (top (a .bits)) Zero)) ≡ at (a .bits) i
-    go true s g t n m h = absurd n
-    go false s true t n m h = absurd m
-    go false false false t n m h = refl
-    go false true false false n m h = refl
-    go false true false true n m h = inside (a .bits) i (top (a .bits)) (h tt tt)
+-- operands that are read as signed are marked so
+signs : (a b : Header) → T (bothSigned a b) → T (a .«is_signed») × T (b .«is_signed»)
+signs a b t = (
+  and-right (not (a .«is_fill»)) (a .«is_signed») (and-left (readSigned a) (readSigned b) t),
+  and-right (not (b .«is_fill»)) (b .«is_signed») (and-right (readSigned a) (readSigned b) t),
+)
 
 -- the and of the first n places
 paired : ℕ → (f g : ℕ → LogicBit) → LogicBit
@@ -116,8 +101,8 @@ equal-paired a b h =
     ∙ ap (foldr andBit One)
     (eq-tabulate n (λ i. sameBit (at (a .bits) i) (at (b .bits) i)) (tabulate n f) Zero (length-tabulate n f)
     (λ i l. getD-tabulate n f i Zero l ∙ ap₂ sameBit
-    (operand-read a (b .header) i (p .0) (p .1) (λ s t. let e = p .2 s t in omega (arith, h .left)))
-    (operand-read b (a .header) i (p .1) (p .0) (λ t s. let e = p .2 s t in omega (arith, h .right)))))
+    (read-plain a (b .header) i (p .0) (λ t. let s = signs (a .header) (b .header) t in let e = p .2 (s .0) (s .1) in omega (arith, h .left)))
+    (read-plain b (a .header) i (p .1) (λ t. let s = signs (b .header) (a .header) t in let e = p .2 (s .1) (s .0) in omega (arith, h .right)))))
 
 -- a bit before the others
 abbrev prepended : LogicBit → (ℕ → LogicBit) → ℕ → LogicBit

@@ -24,9 +24,8 @@ use Rattle.value.specs.Checks.{Vector}
 use Rattle.lanes.specs.declared.Bitwise.{Bitwise}
 use Rattle.lanes.specs.declared.Bitwise.the-variants as bitwise
 use Rattle.lanes.specs.Lanes.{opBit}
-use Rattle.extension.specs.declared.Operator.the-variants as operator-of
 use Rattle.extension.specs.Extension.{largerWidth, operandAt}
-use Rattle.bitwise_words.specs.Joined.{operator}
+use Rattle.extension.proofs.Extension.{read-plain}
 use Rattle.reduce_words.specs.declared.Truth.{Truth}
 use Rattle.reduce_words.specs.declared.Truth.the-variants as truth
 use Rattle.reduce_words.specs.Fold.{reduceAnd, reduceOr, reduceXor, truthOf, truthBit}
@@ -42,7 +41,7 @@ use Rattle.knownness.specs.Knownness.{keepsKnown, isExact, merges, armAt
 use Rattle.knownness.proofs.Bits.{Rule, ExactRule, selectBit, exact-and, exact-or, exact-xor, exact-not, exact-left, exact-right, exact-select}
 use Rattle.knownness.proofs.Readings.{Reading, of-bit, of-operand, of-and, of-or, of-xor, of-truth}
 use Rattle.knownness.proofs.Forms.{Form, Mono, ExactForm, Frame, of-two, of-three}
-use Rattle.knownness.proofs.Equality.{operand-inside, Paired, of-equal}
+use Rattle.knownness.proofs.Equality.{Paired, of-equal}
 
 -- ---- the forms
 
@@ -59,7 +58,7 @@ armBit true = Zero
 armBit false = One
 
 abbrev pub formAt : Family → (pos i : ℕ) → Form
-formAt (family.Join j) pos i t a b c = joinRule j t (operandAt (operator j) a (b .header) i) (operandAt (operator j) b (a .header) i)
+formAt (family.Join j) pos i t a b c = joinRule j t (operandAt a (b .header) i) (operandAt b (a .header) i)
 formAt family.Not pos i t a b c = notBit (at (a .bits) i)
 formAt (family.Answer q) pos i t a b c = answerBit q a b
 formAt family.Select pos i t a b c = selectBit (vectorTruth a) (at (b .bits) i) (at (c .bits) i)
@@ -97,8 +96,8 @@ select-form a b c f truth.Unknown i l =
     let p = no-fills (not (eqb (b .header .width) (c .header .width))) (b .header .«is_fill») (c .header .«is_fill») (f .arms) in
     let e = arms-alike (b .header) (c .header) (f .arms) in
     getD-tabulate n _ i Zero m
-    ∙ ap₂ (selectBit X) (operand-inside operator-of.Merge b (c .header) i (p .0) (omega (arith, f .second, e)))
-    (operand-inside operator-of.Merge c (b .header) i (p .1) (omega (arith, f .third, e)))
+    ∙ ap₂ (selectBit X) (read-plain b (c .header) i (p .0) (λ _. omega (arith, f .second, e)))
+    (read-plain c (b .header) i (p .1) (λ _. omega (arith, f .third, e)))
 
 insert-form : (b : Vector) (pos n i : ℕ) (x : LogicBit) → n < 65
     → cond (within pos n i) (bitOf (packed (at (b .bits))) (i - pos)) x ≡ cond (within pos n i) (at (b .bits) (i - pos)) x
@@ -115,7 +114,7 @@ module _ (a b c : Vector) (pos i : ℕ) where
   made-form (family.Join j) f l =
       let n : ℕ = largerWidth (a .header) (b .header) in
       getD-tabulate n _ i Zero (subst (λ (n : ℕ). i < n) (length-tabulate n _) l)
-      ∙ ap (λ (g : LogicBit → LogicBit → LogicBit). g (operandAt (operator j) a (b .header) i) (operandAt (operator j) b (a .header) i)) (join-rule j)
+      ∙ ap (λ (g : LogicBit → LogicBit → LogicBit). g (operandAt a (b .header) i) (operandAt b (a .header) i)) (join-rule j)
   made-form family.Not f l =
       let n : ℕ = length (a .bits) in getD-tabulate n _ i Zero (subst (λ (n : ℕ). i < n) (length-tabulate n _) l)
   made-form (family.Answer q) f l = one i l
@@ -180,8 +179,8 @@ by-reading op P p = by-readings op (λ t a b. a) exact-left P P p p
 module _ (pos i : ℕ) where
   by-join : (op : Op) (j : Bitwise) → Law op (formAt (family.Join j) pos i)
   by-join op j = exactly op (formAt (family.Join j) pos i)
-      (of-two (Proper op) (λ s. joinRule j) (λ s. exact-join j) (λ s a. operandAt (operator j) a (s .right) i) (λ s b. operandAt (operator j) b (s .left) i)
-      (λ s. of-operand (operator j) (s .right) i) (λ s. of-operand (operator j) (s .left) i))
+      (of-two (Proper op) (λ s. joinRule j) (λ s. exact-join j) (λ s a. operandAt a (s .right) i) (λ s b. operandAt b (s .left) i)
+      (λ s. of-operand (s .right) i) (λ s. of-operand (s .left) i))
 
   by-select : Law Select (formAt family.Select pos i)
   by-select = exactly Select (formAt family.Select pos i)

@@ -1,6 +1,5 @@
 -- What is read of one vector: a bit of it, a bit of it as an operand, a reduction. Each reading keeps known bits, is known of a known vector, and
 -- every completion of what is read is read of some completion of the vector.
---     inside              a place below the width is read as it stands
 --     made, a-completion  every bit and every vector has a completion
 --     Reading             the three properties
 --     of-bit, of-operand, of-and, of-or, of-xor, of-truth     the readings
@@ -10,7 +9,6 @@ use mathlib.Core.Logic.{⊎-elim}
 use mathlib.Core.List.{List, [], _∷_, map, foldr}
 use Prim.Native.Nat.{ℕ, zero, suc, _-_, _<_, _≤_, min}
 use native.Mathlib.Omega.{arith}
-use native.Mathlib.Nat.{not-suc-le-zero, le-of-suc-le-suc}
 use lib.ListN.{length, getD, length-map, List·getD-map, List·getD-eq-default}
 use Rattle.bit.specs.declared.LogicBit.{LogicBit}
 use Rattle.bit.specs.declared.LogicBit.the-variants.{Zero, One, X, Z}
@@ -19,8 +17,8 @@ use Rattle.words.specs.Vector.{at}
 use Rattle.words.proofs.Digits.{lt-or-ge}
 use Rattle.value.specs.declared.Header.{Header}
 use Rattle.value.specs.Checks.{Vector}
-use Rattle.extension.specs.declared.Operator.{Operator}
-use Rattle.extension.specs.Extension.{top, stretched, signExtended, operandAt}
+use Rattle.extension.specs.Extension.{top, bothSigned, operandAt}
+use Rattle.extension.proofs.Extension.{inside}
 use Rattle.reduce_words.specs.Fold.{reduceAnd, reduceOr, reduceXor, truthOf, truthBit}
 use Rattle.reduce_words.proofs.Folds.{and-fold, or-fold, xor-fold, truth-or}
 use Rattle.knownness.specs.Knownness.{Known, Keeps, Completes, Pointwise}
@@ -99,12 +97,7 @@ of-bit i = of-place (λ h n. i)
 
 -- ---- an operand
 
-pub inside : (bs : List LogicBit) (i : ℕ) (d : LogicBit) → i < length bs → getD bs i d ≡ at bs i
-inside [] i d h = absurd (not-suc-le-zero h)
-inside (x ∷ xs) zero d h = refl
-inside (x ∷ xs) (suc i) d h = inside xs i d (le-of-suc-le-suc h)
-
--- where the bit stands that an operand has at place i: a stretched fill, at 0; one that is extended by its top bit, not above it
+-- where the bit stands that an operand has at place i: a fill, at 0; one that is extended by its top bit, not above it
 abbrev placeOf : (fill signed : Bool) → ℕ → ℕ → ℕ
 placeOf fill signed n i = cond fill 0 (cond signed (min i (n - 1)) i)
 
@@ -117,10 +110,10 @@ place-at false true bs i = ⊎-elim
     (λ (l : length bs ≤ i). ap (at bs) (omega arith) ∙ sym (List·getD-eq-default bs (top bs) l))
     (lt-or-ge i (length bs))
 
-pub of-operand : (op : Operator) (b : Header) (i : ℕ) → Reading (λ a. operandAt op a b i)
-of-operand op b i =
-    subst Reading (λ k a. place-at (stretched op (a .header)) (signExtended op (a .header) b) (a .bits) i k)
-    (of-place (λ h n. placeOf (stretched op h) (signExtended op h b) n i))
+pub of-operand : (b : Header) (i : ℕ) → Reading (λ a. operandAt a b i)
+of-operand b i =
+    subst Reading (λ k a. place-at (a .header .«is_fill») (bothSigned (a .header) b) (a .bits) i k)
+    (of-place (λ h n. placeOf (h .«is_fill») (bothSigned h b) n i))
 
 -- ---- a reduction
 

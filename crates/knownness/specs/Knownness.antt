@@ -14,7 +14,6 @@ use Rattle.words.specs.Vector.{at}
 use Rattle.value.specs.declared.Header.{Header}
 use Rattle.value.specs.Checks.{Vector}
 use Rattle.lanes.specs.declared.Bitwise.the-variants as bitwise
-use Rattle.extension.specs.declared.Operator.the-variants as operator
 use Rattle.extension.specs.Extension.{operandAt}
 use Rattle.ops.specs.declared.Op.{Op}
 use Rattle.ops.specs.declared.Op.the-variants.{And, Or, Xor, Not, Merge, ReduceAnd, ReduceOr, ReduceXor, Equal, CaseEqual, CasezEqual, CasexEqual, WildcardEqual, LogicAnd, LogicOr, Select, Insert}
@@ -105,8 +104,8 @@ merges family.Insert = false
 
 -- the arms of a merge are its two operands, extended
 abbrev pub armAt : (second : Bool) → Vector → Vector → ℕ → LogicBit
-armAt true a b i = operandAt operator.Merge b (a .header) i
-armAt false a b i = operandAt operator.Merge a (b .header) i
+armAt true a b i = operandAt b (a .header) i
+armAt false a b i = operandAt a (b .header) i
 
 -- what the op has at place i of the completed operands; in a merge, either arm
 abbrev pub gives : Op → ℕ → (second : Bool) → Vector → Vector → Vector → ℕ → LogicBit

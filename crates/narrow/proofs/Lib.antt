@@ -1,4 +1,5 @@
 pub mod Singles
+pub mod Operands
 pub mod Operators
 pub mod Answers
 pub mod Comparisons

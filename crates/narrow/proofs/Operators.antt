@@ -3,10 +3,9 @@
 --     joined-narrow     so it is the operator on the words at 64 bits
 --     inverted-word     not of the bits of a word below a width
 use mathlib.Core.Path.{_≡_, refl, sym, ap, ap₂, _∙_}
-use mathlib.Core.Logic.{⊎-elim}
-use mathlib.Core.Bool.{Bool, false, _&&_, cond}
-use mathlib.Core.List.{List, [], _∷_}
-use Prim.Native.Nat.{ℕ, _+_, _-_, _*_, _^_, _≤_, _<_, min, max}
+use mathlib.Core.List.{List}
+use Prim.Native.Nat.{ℕ, _+_, _-_, _*_, _^_, _<_, min}
+use native.Mathlib.Nat.{zero-add}
 use native.Mathlib.Omega.{arith}
 use lib.Bits.{bitAnd}
 use lib.ListN.{length, getD}
@@ -15,29 +14,23 @@ use Rattle.bit.specs.declared.LogicBit.the-variants.{Zero}
 use Rattle.bit.specs.Rules.{notBit}
 use Rattle.words.specs.declared.Word.{Word}
 use Rattle.words.specs.Vector.{at, tabulate}
-use Rattle.words.specs.Planes.{stored, bitOf, vectorOf, planesOf, valueDigit, unknownDigit, Plane, wordBy}
-use Rattle.words.proofs.Digits.{pack-cong, lt-or-ge}
-use Rattle.words.proofs.Planes.{getD-tabulate, getD-tabulate-out, length-tabulate, eq-tabulate, operand}
+use Rattle.words.specs.Planes.{bitOf, vectorOf, planesOf, valueDigit, unknownDigit, wordBy}
+use Rattle.words.proofs.Digits.{pack-cong}
+use Rattle.words.proofs.Planes.{getD-tabulate, length-tabulate, eq-tabulate}
 use Rattle.value.specs.declared.Header.{Header}
 use Rattle.value.specs.Checks.{plain, vector}
-use Rattle.extension.specs.Extension.{stretched, signedFor, extendsByTop, top, operandAt}
+use Rattle.extension.specs.Extension.{largerWidth}
 use Rattle.lanes.specs.declared.Bitwise.{Bitwise}
 use Rattle.lanes.specs.declared.Bitwise.the-variants.{And, Or, Xor, Merge}
 use Rattle.lanes.specs.Lanes.{opBit, laneWord}
 use Rattle.lanes.proofs.Places as lanes
 use Rattle.lanes.proofs.Places.{laneOne, cutWord}
-use Rattle.bitwise_words.specs.Joined.{operator, joined, inverted}
+use Rattle.bitwise_words.specs.Joined.{joined, inverted}
 use Rattle.narrow.specs.Narrow.{single, plain64}
-use Rattle.narrow.proofs.Singles.{whole, at-most, placeOf, place, one-word}
+use Rattle.narrow.proofs.Singles.{placeOf, place, one-word}
+use Rattle.narrow.proofs.Operands.{Narrow, Plainly, plain-narrow, pairedAt, paired, in-a-word}
 
 -- ---- and, or, xor and merge
-
--- none of them extends by the top bit
-extends-by-zero : (op : Bitwise) → extendsByTop (operator op) ≡ false
-extends-by-zero And = refl
-extends-by-zero Or = refl
-extends-by-zero Xor = refl
-extends-by-zero Merge = refl
 
 zeros : (op : Bitwise) → opBit op Zero Zero ≡ Zero
 zeros And = refl
@@ -45,51 +38,22 @@ zeros Or = refl
 zeros Xor = refl
 zeros Merge = refl
 
--- a vector whose planes are one word, and that the operator does not stretch
-pub record Narrow (op : Bitwise) (h : Header) (x : Word) : Type 0 where
-  pub value-plane : Plane (h .width) (x .value ∷ [])
-  pub unknown-plane : Plane (h .width) (x .unknown ∷ [])
-  pub unstretched : stretched (operator op) h ≡ false
-
--- place j of such a vector beside any other is bit j of its word
-operand-bit : (op : Bitwise) (h b : Header) (x : Word) → Narrow op h x → (j : ℕ) → j < 64 → bitOf x j ≡ operandAt (operator op) (vector h (single x)) b (0 * 64 + j)
-operand-bit op h b x n j l =
-    operand (h .width) (x .value ∷ []) (x .unknown ∷ []) (n .value-plane) (n .unknown-plane) 0 j l
-    ∙ sym (ap₂
-    (λ (s t : Bool). cond s (at (vectorOf (h .width) (single x)) 0) (getD (vectorOf (h .width) (single x)) (0 * 64 + j) (cond (t && (signedFor (operator op) h && signedFor (operator op) b)) (top (vectorOf (h .width) (single x))) Zero)))
-    (n .unstretched) (extends-by-zero op))
-
--- from its width on it is 0
-operand-none : (op : Bitwise) (h : Header) (x : Word) → Narrow op h x → (j : ℕ) → j < 64 → h .width ≤ j → bitOf x j ≡ Zero
-operand-none op h x n j l m = place x j l ∙ ap₂ stored (n .value-plane .clear (0 * 64 + j) (omega arith)) (n .unknown-plane .clear (0 * 64 + j) (omega arith))
-
-module _ (op : Bitwise) (a b : Header) (x y : Word) (n : Narrow op a x) (m : Narrow op b y) where
-  abbrev joinedAt : ℕ → LogicBit
-  joinedAt i = opBit op (operandAt (operator op) (vector a (single x)) b i) (operandAt (operator op) (vector b (single y)) a i)
-
+module _ (op : Bitwise) (a b : Header) (x y : Word) (n : Narrow a x) (m : Narrow b y) (c : Plainly a b) where
   joined-bit : (j : ℕ) → j < 64 → opBit op (bitOf x j) (bitOf y j) ≡ at (joined op (vector a (single x)) (vector b (single y))) (0 * 64 + j)
   joined-bit j l =
-      ⊎-elim
-      (λ k. ap₂ (opBit op) (operand-bit op a b x n j l) (operand-bit op b a y m j l)
-      ∙ sym (getD-tabulate (max (a .width) (b .width)) joinedAt (0 * 64 + j) Zero (omega arith)))
-      (λ k. ap₂ (opBit op) (operand-none op a x n j l (omega arith)) (operand-none op b y m j l (omega arith)) ∙ zeros op
-      ∙ sym (getD-tabulate-out (max (a .width) (b .width)) joinedAt (0 * 64 + j) Zero (omega arith)))
-      (lt-or-ge j (max (a .width) (b .width)))
+      sym (paired (opBit op) a b x y n m c j l)
+      ∙ ap₂ (getD (joined op (vector a (single x)) (vector b (single y)))) (sym (zero-add j)) (zeros op)
 
   pub joined-word : single (laneWord (opBit op) x y) ≡ planesOf (joined op (vector a (single x)) (vector b (single y)))
   unfolding laneWord
   joined-word =
-      one-word (max (a .width) (b .width)) joinedAt (laneWord (opBit op) x y) (omega (arith, at-most (a .width) (x .value) (n .value-plane), at-most (b .width) (y .value) (m .value-plane)))
+      one-word (largerWidth a b) (pairedAt (opBit op) a b x y n m c) (laneWord (opBit op) x y) (in-a-word a b x y n m)
       (ap₂ wordBy (pack-cong 64 _ _ (λ j l. ap valueDigit (joined-bit j l))) (pack-cong 64 _ _ (λ j l. ap unknownDigit (joined-bit j l))))
 
--- every word pair at 64 bits
-pub plain-narrow : (op : Bitwise) (x : Word) → Narrow op (plain 64) x
-plain-narrow op x = record { value-plane = whole (x .value); unknown-plane = whole (x .unknown); unstretched = refl }
-
-pub joined-narrow : (op : Bitwise) (a b : Header) (x y : Word) → Narrow op a x → Narrow op b y
+pub joined-narrow : (op : Bitwise) (a b : Header) (x y : Word) → Narrow a x → Narrow b y → Plainly a b
     → planesOf (joined op (vector a (single x)) (vector b (single y))) ≡ planesOf (joined op (plain64 x) (plain64 y))
-joined-narrow op a b x y n m =
-    sym (joined-word op a b x y n m) ∙ joined-word op (plain 64) (plain 64) x y (plain-narrow op x) (plain-narrow op y)
+joined-narrow op a b x y n m c =
+    sym (joined-word op a b x y n m c) ∙ joined-word op (plain 64) (plain 64) x y (plain-narrow x) (plain-narrow y) (λ _. refl)
 
 -- ---- not
 

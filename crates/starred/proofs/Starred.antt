@@ -1,8 +1,12 @@
--- Every starred case holds, by computation.
+-- Every case holds, by computation.
 use mathlib.Core.Path.{refl}
 use Rattle.words.specs.Vector.{tabulate}
-use Rattle.starred.specs.Starred.{Hold, starred}
+use Rattle.starred.specs.Starred.{Hold, starred, pointTwo}
 
 pub starred-hold : Hold starred
 unfolding tabulate
 starred-hold = refl
+
+pub point-two-hold : Hold pointTwo
+unfolding tabulate
+point-two-hold = refl

@@ -1,5 +1,5 @@
--- The cases of document 01, "Cases on either side", that are marked with a star, over the definitions that the contracts cite. A vector is
--- written highest bit first, each bit by its code: 0, 1, x or z.
+-- The cases of document 01, "Cases on either side", that are marked with a star, and cases of document 02, point 2, over the definitions that the
+-- contracts cite. A vector is written highest bit first, each bit by its code: 0, 1, x or z.
 use mathlib.Core.Path.{_≡_}
 use mathlib.Core.Bool.{true, false}
 use mathlib.Core.List.{List, [], _∷_, map, reverse}
@@ -31,7 +31,11 @@ u codes = record { header = record { width = length codes; «is_signed» = false
 abbrev s : List ℕ → Vector
 s codes = record { header = record { width = length codes; «is_signed» = true; «is_fill» = false }; bits = bits codes }
 
--- what a definition gives, and what document 01 says
+-- an unsigned fill
+abbrev f : List ℕ → Vector
+f codes = record { header = record { width = length codes; «is_signed» = false; «is_fill» = true }; bits = bits codes }
+
+-- what a definition gives, and what the document says
 pub record Case : Type 0 where
   pub given : List LogicBit
   pub said : List LogicBit
@@ -40,7 +44,7 @@ infixl 90 _is_
 abbrev _is_ : List LogicBit → List ℕ → Case
 given is said = record { given = given; said = bits said }
 
--- in every case the definition gives what document 01 says
+-- in every case the definition gives what the document says
 abbrev pub Hold : List Case → Type 0
 Hold cs = map (λ (c : Case). c .given) cs ≡ map (λ (c : Case). c .said) cs
 
@@ -61,4 +65,20 @@ starred =
     ∷ (compared WildcardEqual (u (1 ∷ 1 ∷ [])) (u (1 ∷ x ∷ [])) ∷ []) is (1 ∷ [])
     ∷ (compared CasezEqual (u (1 ∷ x ∷ [])) (u (1 ∷ z ∷ [])) ∷ []) is (1 ∷ [])
     ∷ (compared CaseEqual (s (x ∷ [])) (s (x ∷ x ∷ x ∷ [])) ∷ []) is (1 ∷ [])
+    ∷ []
+
+-- operands of two widths, extended by the top bit if both are signed, else by 0; and fills, stretched
+abbrev pub pointTwo : List Case
+pointTwo =
+    joined Or (s (1 ∷ [])) (s (0 ∷ 0 ∷ [])) is (1 ∷ 1 ∷ [])
+    ∷ joined Or (s (1 ∷ [])) (u (0 ∷ 0 ∷ [])) is (0 ∷ 1 ∷ [])
+    ∷ joined Or (s []) (s (1 ∷ 0 ∷ [])) is (1 ∷ 0 ∷ [])
+    ∷ joined And (s (z ∷ [])) (s (1 ∷ 0 ∷ 1 ∷ [])) is (x ∷ 0 ∷ x ∷ [])
+    ∷ joined Xor (s (x ∷ 0 ∷ [])) (s (0 ∷ 1 ∷ 0 ∷ 0 ∷ [])) is (x ∷ x ∷ x ∷ 0 ∷ [])
+    ∷ joined Merge (s (1 ∷ [])) (s (1 ∷ 1 ∷ [])) is (1 ∷ 1 ∷ [])
+    ∷ joined Merge (u (1 ∷ 1 ∷ 1 ∷ 1 ∷ [])) (f (1 ∷ [])) is (1 ∷ 1 ∷ 1 ∷ 1 ∷ [])
+    ∷ joined Merge (f (0 ∷ 1 ∷ 1 ∷ [])) (s (1 ∷ [])) is (x ∷ x ∷ 1 ∷ [])
+    ∷ joined Merge (f (0 ∷ 1 ∷ [])) (f (1 ∷ [])) is (1 ∷ 1 ∷ [])
+    ∷ (compared WildcardEqual (u (1 ∷ 1 ∷ 1 ∷ 1 ∷ [])) (f (1 ∷ [])) ∷ []) is (1 ∷ [])
+    ∷ (compared WildcardEqual (s (1 ∷ [])) (f (0 ∷ 1 ∷ [])) ∷ []) is (0 ∷ [])
     ∷ []

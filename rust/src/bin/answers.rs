@@ -1,4 +1,4 @@
-//! Writes the table of the reference's answers that is named to standard output.
+//! Writes the table of answers that is named to standard output.
 use std::env;
 use std::io::{self, Write};
 use vowherunga::reference::answers::{tables, TABLES};

@@ -1,4 +1,5 @@
-//! Writes to standard output what the program `cones` has to write for a step list from standard input, worked out by the reference.
+//! Writes to standard output what the program `cones` has to write for a step list from standard input, worked out by the reference's operators
+//! or, where document 02 departs from them, by the standard's.
 use std::io::{self, Read, Write};
 use vowherunga::reference::steps::{run, Memory};
 

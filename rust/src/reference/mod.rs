@@ -1,10 +1,11 @@
 //! The reference, compiled in place and unmodified, and what every comparison with it needs: a vector that owns its planes, drawn inputs,
-//! reals, the table of its answers, and step lists worked out by it.
+//! reals, the answers of the standard where the library departs from it, the tables of answers, and step lists worked out.
 include!(concat!(env!("OUT_DIR"), "/reference.rs"));
 
 pub mod answers;
 pub mod draw;
 pub mod reals;
+pub mod standard;
 pub mod steps;
 
 use crate::{planes, Header};
@@ -46,6 +47,12 @@ impl Vector {
             is_fill: false,
         };
         Vector { header, value, unknown }
+    }
+
+    /// Makes it signed and no fill.
+    pub fn make_signed(&mut self) {
+        self.header.is_signed = true;
+        self.header.is_fill = false;
     }
 
     /// The code of bit i, below the width.

@@ -1,7 +1,6 @@
 //! Comparisons of a call with the reference's, shared by the subjects.
 use crate::lent::Lent;
 use vowherunga::reference::draw::Rng;
-use vowherunga::reference::value::Value;
 use vowherunga::reference::Vector;
 use vowherunga::{Header, LogicBit, Refusal};
 
@@ -12,14 +11,14 @@ pub fn lend<A>(v: &Vector, call: impl FnOnce(&mut [u64], &mut [u64]) -> Result<A
     (answer, value.left(), unknown.left())
 }
 
-/// A call that writes planes, whatever stood in them, and gives a header as the reference's value has them. `of` says what of.
+/// A call that writes planes, whatever stood in them, and gives a header as the expected vector has them. `of` says what of.
 pub fn makes_alike(
     rng: &mut Rng,
     of: impl Fn() -> String,
     ours: impl FnOnce(&mut [u64], &mut [u64]) -> Result<Header, Refusal>,
-    theirs: Value,
+    theirs: impl Into<Vector>,
 ) {
-    let want = Vector::from(theirs);
+    let want = theirs.into();
     let stood = rng.unmasked(want.header.width);
     let (answer, value, unknown) = lend(&stood, ours);
     assert_eq!(answer, Ok(want.header), "{}", of());
@@ -45,9 +44,9 @@ fn first(plane: &[u64], other: &[u64]) -> Option<(usize, u64)> {
 pub struct Tally([usize; 4]);
 
 impl Tally {
-    /// Sees that an answer is the reference's, an unsigned value of one bit, and counts it.
-    pub fn compare(&mut self, ours: Result<LogicBit, Refusal>, theirs: Value, of: impl Fn() -> String) {
-        let want = Vector::from(theirs);
+    /// Sees that an answer is the expected one, an unsigned vector of one bit, and counts it.
+    pub fn compare(&mut self, ours: Result<LogicBit, Refusal>, theirs: impl Into<Vector>, of: impl Fn() -> String) {
+        let want = theirs.into();
         assert_eq!(want.header, Vector::plain(1, vec![], vec![]).header, "{}", of());
         assert_eq!(ours, Ok(LogicBit::from_code(want.code(0))), "{}", of());
         self.0[usize::from(want.code(0))] += 1;

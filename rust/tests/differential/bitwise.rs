@@ -1,46 +1,50 @@
-//! The operators whose result is a vector, against the reference's `Value`.
+//! The operators whose result is a vector, against the reference's `Value` and, where it is the standard that decides, against that.
 use crate::alike::{lend, makes_alike};
 use crate::planes::positions;
 use crate::samples::{each_pair, each_vector, widths};
 use vowherunga::reference::draw::{counts, Rng};
-use vowherunga::reference::value::Value;
+use vowherunga::reference::standard::{expected, is_touched, Shares};
 use vowherunga::reference::Vector;
+use vowherunga::steps::Op;
 use vowherunga::{bitwise, Header, Refusal, Word};
 
 type OfTwo = fn(Header, &[u64], &[u64], Header, &[u64], &[u64], &mut [u64], &mut [u64]) -> Result<Header, Refusal>;
 
-/// An operator of two vectors gives header and planes as the reference has them, over each pair.
-fn of_two(seed: u64, ours: OfTwo, theirs: fn(&Value, &Value) -> Value) {
+/// An operator of two vectors gives header and planes as expected, over each pair.
+fn of_two(seed: u64, ours: OfTwo, op: Op) {
     let mut rng = Rng::new(seed);
+    let mut shares = Shares::default();
     let calls = each_pair(seed, |a, b| {
         makes_alike(
             &mut rng,
             || format!("{a:?}, {b:?}"),
             |ov, ou| ours(a.header(), &a.value, &a.unknown, b.header(), &b.value, &b.unknown, ov, ou),
-            theirs(&a.reference, &b.reference),
+            expected(op, &a.vector(), &b.vector()),
         );
+        shares.count(is_touched(op, a.header(), b.header()));
     });
-    assert!(calls > 180_000, "{calls} calls");
+    assert!(calls > 250_000, "{calls} calls");
+    shares.expect(op.name());
 }
 
 #[test]
 fn bitwise_and() {
-    of_two(10, bitwise::bitwise_and, Value::bitwise_and);
+    of_two(10, bitwise::bitwise_and, Op::And);
 }
 
 #[test]
 fn bitwise_or() {
-    of_two(11, bitwise::bitwise_or, Value::bitwise_or);
+    of_two(11, bitwise::bitwise_or, Op::Or);
 }
 
 #[test]
 fn bitwise_xor() {
-    of_two(12, bitwise::bitwise_xor, Value::bitwise_xor);
+    of_two(12, bitwise::bitwise_xor, Op::Xor);
 }
 
 #[test]
 fn merge_unknown() {
-    of_two(13, bitwise::merge_unknown, Value::merge_unknown);
+    of_two(13, bitwise::merge_unknown, Op::Merge);
 }
 
 #[test]

@@ -1,8 +1,10 @@
-//! Equality, case equality and wildcard equality, against the reference's `Value`.
+//! Equality, case equality and wildcard equality, against the reference's `Value` and, where it is the standard that decides, against that.
 use crate::alike::Tally;
 use crate::reduce::of_operands;
 use crate::samples::each_pair;
+use vowherunga::reference::standard::{expected, is_touched, Shares};
 use vowherunga::reference::value::Value;
+use vowherunga::steps::Op;
 use vowherunga::LogicBit::{One, Zero, X};
 use vowherunga::{compare, Header, LogicBit, Refusal};
 
@@ -13,32 +15,35 @@ fn is_equal() {
     of_operands(40, compare::is_equal, Value::is_equal, &[Zero, One]);
 }
 
-/// A comparison answers as the reference does, over each pair of vectors.
-fn of_vectors(seed: u64, ours: OfTwo, theirs: fn(&Value, &Value) -> Value, answers: &[LogicBit]) {
+/// A comparison answers as expected, over each pair of vectors.
+fn of_vectors(seed: u64, ours: OfTwo, op: Op, answers: &[LogicBit]) -> Shares {
     let mut tally = Tally::default();
+    let mut shares = Shares::default();
     each_pair(seed, |a, b| {
         let answer = ours(a.header(), &a.value, &a.unknown, b.header(), &b.value, &b.unknown);
-        tally.compare(answer, theirs(&a.reference, &b.reference), || format!("{a:?}, {b:?}"));
+        tally.compare(answer, expected(op, &a.vector(), &b.vector()), || format!("{a:?}, {b:?}"));
+        shares.count(is_touched(op, a.header(), b.header()));
     });
-    tally.expect(180_000, answers);
+    tally.expect(250_000, answers);
+    shares
 }
 
 #[test]
 fn case_eq() {
-    of_vectors(41, compare::case_eq, Value::case_eq, &[Zero, One]);
+    of_vectors(41, compare::case_eq, Op::CaseEqual, &[Zero, One]);
 }
 
 #[test]
 fn casez_eq() {
-    of_vectors(42, compare::casez_eq, Value::casez_eq, &[Zero, One]);
+    of_vectors(42, compare::casez_eq, Op::CasezEqual, &[Zero, One]);
 }
 
 #[test]
 fn casex_eq() {
-    of_vectors(43, compare::casex_eq, Value::casex_eq, &[Zero, One]);
+    of_vectors(43, compare::casex_eq, Op::CasexEqual, &[Zero, One]);
 }
 
 #[test]
 fn wildcard_eq() {
-    of_vectors(44, compare::wildcard_eq, Value::wildcard_eq, &[Zero, One, X]);
+    of_vectors(44, compare::wildcard_eq, Op::WildcardEqual, &[Zero, One, X]).expect(Op::WildcardEqual.name());
 }

@@ -1,8 +1,10 @@
-//! Vectors of at most 64 bits held by value, against the reference's `Value`.
+//! Vectors of at most 64 bits held by value, against the reference's `Value` and, where it is the standard that decides, against that.
 use crate::alike::Tally;
 use crate::samples::{each_pair, each_vector, Sample};
+use vowherunga::reference::standard::{expected, is_touched, Shares};
 use vowherunga::reference::value::Value;
 use vowherunga::reference::{truth_bit, Vector};
+use vowherunga::steps::Op;
 use vowherunga::LogicBit::{One, Zero, X};
 use vowherunga::{LogicBit, Narrow, Word};
 
@@ -14,9 +16,9 @@ fn narrow(s: &Sample) -> Option<Narrow> {
     }
 }
 
-/// Header and bits are those of the reference's value.
-fn same(ours: Narrow, theirs: Value, of: impl Fn() -> String) {
-    let want = Vector::from(theirs);
+/// Header and bits are those of the expected vector.
+fn same(ours: Narrow, theirs: impl Into<Vector>, of: impl Fn() -> String) {
+    let want = theirs.into();
     let bits = Word {
         value: want.value[0],
         unknown: want.unknown[0],
@@ -24,24 +26,27 @@ fn same(ours: Narrow, theirs: Value, of: impl Fn() -> String) {
     assert_eq!((ours.header(), ours.bits()), (want.header, bits), "{}", of());
 }
 
-/// An operator of two gives what the reference gives, over each pair that is narrow.
-fn of_two(seed: u64, ours: fn(Narrow, Narrow) -> Narrow, theirs: fn(&Value, &Value) -> Value) {
+/// An operator of two gives what is expected, over each pair that is narrow.
+fn of_two(seed: u64, ours: fn(Narrow, Narrow) -> Narrow, op: Op) {
     let mut calls = 0;
+    let mut shares = Shares::default();
     each_pair(seed, |a, b| {
         if let (Some(x), Some(y)) = (narrow(a), narrow(b)) {
-            same(ours(x, y), theirs(&a.reference, &b.reference), || format!("{a:?}, {b:?}"));
+            same(ours(x, y), expected(op, &a.vector(), &b.vector()), || format!("{a:?}, {b:?}"));
             calls += 1;
+            shares.count(is_touched(op, a.header(), b.header()));
         }
     });
-    assert!(calls > 130_000, "{calls} calls");
+    assert!(calls > 145_000, "{calls} calls");
+    shares.expect(op.name());
 }
 
 #[test]
 fn bitwise() {
-    of_two(30, Narrow::bitwise_and, Value::bitwise_and);
-    of_two(31, Narrow::bitwise_or, Value::bitwise_or);
-    of_two(32, Narrow::bitwise_xor, Value::bitwise_xor);
-    of_two(33, Narrow::merge_unknown, Value::merge_unknown);
+    of_two(30, Narrow::bitwise_and, Op::And);
+    of_two(31, Narrow::bitwise_or, Op::Or);
+    of_two(32, Narrow::bitwise_xor, Op::Xor);
+    of_two(33, Narrow::merge_unknown, Op::Merge);
 }
 
 #[test]
@@ -75,22 +80,25 @@ fn answers() {
     answer(38, |x| x.is_nonzero().into(), |v| truth_bit(v.is_nonzero()));
 }
 
-/// A comparison answers as the reference does, over each pair that is narrow.
-fn comparison(seed: u64, ours: fn(Narrow, Narrow) -> LogicBit, theirs: fn(&Value, &Value) -> Value, answers: &[LogicBit]) {
+/// A comparison answers as expected, over each pair that is narrow.
+fn comparison(seed: u64, ours: fn(Narrow, Narrow) -> LogicBit, op: Op, answers: &[LogicBit]) -> Shares {
     let mut tally = Tally::default();
+    let mut shares = Shares::default();
     each_pair(seed, |a, b| {
         if let (Some(x), Some(y)) = (narrow(a), narrow(b)) {
-            tally.compare(Ok(ours(x, y)), theirs(&a.reference, &b.reference), || format!("{a:?}, {b:?}"));
+            tally.compare(Ok(ours(x, y)), expected(op, &a.vector(), &b.vector()), || format!("{a:?}, {b:?}"));
+            shares.count(is_touched(op, a.header(), b.header()));
         }
     });
-    tally.expect(130_000, answers);
+    tally.expect(145_000, answers);
+    shares
 }
 
 #[test]
 fn comparisons() {
-    comparison(45, Narrow::is_equal, Value::is_equal, &[Zero, One, X]);
-    comparison(46, Narrow::case_eq, Value::case_eq, &[Zero, One]);
-    comparison(47, Narrow::casez_eq, Value::casez_eq, &[Zero, One]);
-    comparison(48, Narrow::casex_eq, Value::casex_eq, &[Zero, One]);
-    comparison(49, Narrow::wildcard_eq, Value::wildcard_eq, &[Zero, One, X]);
+    comparison(45, Narrow::is_equal, Op::Equal, &[Zero, One, X]);
+    comparison(46, Narrow::case_eq, Op::CaseEqual, &[Zero, One]);
+    comparison(47, Narrow::casez_eq, Op::CasezEqual, &[Zero, One]);
+    comparison(48, Narrow::casex_eq, Op::CasexEqual, &[Zero, One]);
+    comparison(49, Narrow::wildcard_eq, Op::WildcardEqual, &[Zero, One, X]).expect(Op::WildcardEqual.name());
 }

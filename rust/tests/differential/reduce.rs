@@ -57,7 +57,7 @@ pub fn of_operands(seed: u64, ours: OfTwo, theirs: fn(&Value, &Value) -> Value, 
     };
     let mut tally = Tally::default();
     each_pair(seed, |a, b| compare(&mut tally, a, b));
-    tally.expect(180_000, &[Zero, One, X]);
+    tally.expect(250_000, &[Zero, One, X]);
     let mut tally = Tally::default();
     each_pair_with_a_real(seed, |a, b| compare(&mut tally, a, b));
     tally.expect(230_000, with_a_real);

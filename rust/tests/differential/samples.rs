@@ -53,6 +53,14 @@ impl Sample {
             Operand::Real(f) => panic!("the real {f} has no header"),
         }
     }
+
+    pub fn vector(&self) -> Vector {
+        Vector {
+            header: self.header(),
+            value: self.value.clone(),
+            unknown: self.unknown.clone(),
+        }
+    }
 }
 
 impl fmt::Debug for Sample {
@@ -109,30 +117,34 @@ pub fn each_vector(seed: u64, mut check: impl FnMut(&Sample)) -> usize {
 fn widths_of_pairs() -> Vec<(u32, u32, usize)> {
     let mut all = Vec::new();
     for a in 0..=130 {
-        all.extend((0..=130).map(|b| (a, b, 4)));
+        all.extend((0..=130).map(|b| (a, b, 8)));
     }
     for wide in WIDER {
         all.extend(EDGES.into_iter().flat_map(|edge| [(wide, edge, 6), (edge, wide, 6)]));
         all.extend(WIDER.map(|other| (wide, other, 6)));
     }
     for widest in WIDEST {
-        all.extend([(widest, 1, 1), (64, widest, 1), (widest, 4097, 1)]);
-        all.extend(WIDEST.map(|other| (widest, other, 3)));
+        all.extend([(widest, 1, 2), (64, widest, 2), (widest, 4097, 2)]);
+        all.extend(WIDEST.map(|other| (widest, other, 4)));
     }
     all
 }
 
 /// Hands to a check every pair of vectors of at most 3 bits with every mark, and drawn pairs of every two widths up to 130 and of wide ones;
-/// in half of these the right one is much like the left. Gives the number of pairs.
+/// in half of these the right one is much like the left, and in every second both are signed and no fills. Gives the number of pairs.
 pub fn each_pair(seed: u64, mut check: impl FnMut(&Sample, &Sample)) -> usize {
     let small = small(3);
     small.iter().for_each(|a| small.iter().for_each(|b| check(a, b)));
     let mut calls = small.len() * small.len();
     let mut rng = Rng::new(seed);
     for (wa, wb, draws) in widths_of_pairs() {
-        for _ in 0..draws {
-            let a = rng.operand(wa);
-            let b = if rng.below(2) == 0 { rng.operand(wb) } else { rng.like(&a, wb) };
+        for k in 0..draws {
+            let mut a = rng.operand(wa);
+            let mut b = if rng.below(2) == 0 { rng.operand(wb) } else { rng.like(&a, wb) };
+            if k % 2 == 1 {
+                a.make_signed();
+                b.make_signed();
+            }
             check(&a.into(), &b.into());
             calls += 1;
         }

@@ -1,6 +1,7 @@
 //! The calls of the store, one after the other, on both sides: wider vectors and more kinds than a list can have.
 use crate::alike::{lend, store_of};
 use crate::draws::Draws;
+use crate::shares::StepShares;
 use vowherunga::reference::draw::Rng;
 use vowherunga::reference::steps::{operands, Machine, Shape};
 use vowherunga::reference::Vector;
@@ -73,6 +74,7 @@ fn drawn_step(rng: &mut Rng, shape: &Shape, cells: &[Vector]) -> Step {
 fn drawn_calls() {
     let mut draws = Draws::new(3_000, 56);
     let mut refused = [0; 15];
+    let mut shares = StepShares::default();
     for _ in 0..draws.count {
         let rng = &mut draws.rng;
         let shape = Shape {
@@ -93,21 +95,25 @@ fn drawn_calls() {
                 pair.input(&v)
             } else {
                 let step = drawn_step(rng, &shape, &pair.machine.cells);
-                pair.step(step)
+                let (pair, number) = pair.step(step);
+                if number == 0 {
+                    shares.count(step, |n| pair.machine.cells[n as usize].header);
+                }
+                (pair, number)
             };
             refused[usize::from(number)] += 1;
         }
     }
+    shares.expect();
     assert!(
         [0, 7, 11, 13].iter().all(|n| refused[*n] > draws.share(300)),
         "{refused:?} by number"
     );
 }
 
-/// Every op on cells of the widest width and of one bit less.
-#[test]
-fn widest_calls() {
-    let mut rng = Rng::new(57);
+/// Every op on cells of the widest width and of one bit less, unsigned or signed.
+fn widest_calls(seed: u64, is_signed: bool) {
+    let mut rng = Rng::new(seed);
     let widest = 16_384;
     let mut pair = Pair {
         store: Store::new(),
@@ -115,7 +121,7 @@ fn widest_calls() {
     };
     for width in [MAX_WIDTH, MAX_WIDTH - 1, MAX_WIDTH] {
         let mut v = rng.operand(width);
-        v.header.is_fill = false;
+        (v.header.is_signed, v.header.is_fill) = (is_signed, false);
         pair = pair.input(&v).0;
     }
     for op in Op::ALL {
@@ -128,4 +134,14 @@ fn widest_calls() {
         (pair, number) = pair.step(Step { op, a, b, c });
         assert_eq!(number, 0, "{op}");
     }
+}
+
+#[test]
+fn widest_unsigned_calls() {
+    widest_calls(57, false);
+}
+
+#[test]
+fn widest_signed_calls() {
+    widest_calls(59, true);
 }

@@ -41,10 +41,19 @@ impl Small {
         all
     }
 
-    /// A number that it can be, as and, or and xor read it beside another: a fill is stretched.
+    /// Whether both are signed, as no fill is.
+    fn is_signed_beside(self, other: Small) -> bool {
+        [self, other].iter().all(|v| v.is_signed && !v.is_fill)
+    }
+
+    /// A number that it can be, as and, or, xor and merge read it beside another: a fill is stretched, and a shorter one is extended by its top
+    /// bit if both are signed.
     fn beside(self, other: Small, n: u64) -> u64 {
+        let larger = low_bits(self.width.max(other.width));
+        let is_negative = self.width > 0 && n >> (self.width - 1) == 1;
         match self.is_fill {
-            true => n % 2 * low_bits(self.width.max(other.width)),
+            true => n % 2 * larger,
+            false if self.is_signed_beside(other) && is_negative => n | larger & !low_bits(self.width),
             false => n,
         }
     }
@@ -55,7 +64,7 @@ impl Small {
     }
 }
 
-/// What an op has on numbers that its operands can be; a merge has either.
+/// What an op has on numbers that its operands can be; a merge has either of its operands as it reads them.
 fn of_numbers(op: Op, operands: [Small; 3], n: [u64; 3], position: u32) -> Vec<u64> {
     let width = operands.map(|v| v.width);
     let [a, b, _] = operands;
@@ -66,7 +75,7 @@ fn of_numbers(op: Op, operands: [Small; 3], n: [u64; 3], position: u32) -> Vec<u
         Op::Or => x | y,
         Op::Xor => x ^ y,
         Op::Not => !n[0],
-        Op::Merge => return vec![n[0], n[1]],
+        Op::Merge => return vec![x, y],
         Op::ReduceAnd => one(n[0] == low_bits(width[0])),
         Op::ReduceOr => one(n[0] != 0),
         Op::ReduceXor => one(n[0].count_ones() % 2 == 1),
@@ -101,7 +110,7 @@ fn known_exactly_where_completions_agree() {
     let mut draws = Draws::new(6_000, 55);
     let mut runs = Runs::new();
     let mut steps = [0; 17];
-    let (mut with_fills, mut of_two_widths) = (0, 0);
+    let (mut with_fills, mut of_two_widths, mut extended) = (0, 0, [0; 17]);
     for _ in 0..draws.count {
         let rng = &mut draws.rng;
         let shape = Shape::short(rng).keeping_known();
@@ -129,12 +138,19 @@ fn known_exactly_where_completions_agree() {
             assert_eq!(is, want, "the known ones and zeros of step {} of\n{}", k + 1, drawn.list.text());
             steps[usize::from(step.op.code())] += 1;
             with_fills += usize::from(operands.iter().any(|v| v.is_fill));
-            of_two_widths += usize::from(step.op == Op::Equal && operands[0].width != operands[1].width);
+            let [a, b, _] = operands;
+            of_two_widths += usize::from(step.op == Op::Equal && a.width != b.width);
+            extended[usize::from(step.op.code())] += usize::from(a.is_signed_beside(b) && a.width != b.width);
         }
     }
     runs.expect(&draws.endings([("done", 5_900)]));
     assert!(with_fills > draws.share(1_000), "{with_fills} steps on fills");
     assert!(of_two_widths > draws.share(100), "{of_two_widths} equalities of two widths");
+    println!("{extended:?} steps on signed operands of two widths");
+    for op in [Op::And, Op::Or, Op::Xor, Op::Merge] {
+        let n = extended[usize::from(op.code())];
+        assert!(n > draws.share(400), "{n} steps {op} on signed operands of two widths");
+    }
     for op in Op::ALL {
         assert!(
             !keeps_known(op) || steps[usize::from(op.code())] > draws.share(500),

@@ -1,4 +1,4 @@
-//! The files of tests/cones: what stands there as the output is what the reference gives, and what the library gives.
+//! The files of tests/cones: what stands there as the output is what the reference's machine gives, and what the library gives.
 use crate::alike::Runs;
 use std::{fs, path::Path, path::PathBuf};
 use vowherunga::reference::steps::Memory;

@@ -1,6 +1,7 @@
 //! Drawn lists run on both sides.
 use crate::alike::Runs;
 use crate::draws::Draws;
+use crate::shares::StepShares;
 use vowherunga::reference::draw::Rng;
 use vowherunga::reference::steps::{Memory, Shape};
 use vowherunga::steps::Op;
@@ -10,6 +11,7 @@ fn drawn_lists() {
     let mut draws = Draws::new(24_000, 50);
     let mut runs = Runs::new();
     let mut ops = [0; 17];
+    let mut shares = StepShares::default();
     for _ in 0..draws.count {
         let rng = &mut draws.rng;
         let shape = Shape::any(rng);
@@ -17,10 +19,12 @@ fn drawn_lists() {
         let memory = rng.memory_for(&drawn);
         let left = runs.compare(drawn.list.text().as_bytes(), &memory);
         let done = left.store.count().saturating_sub(drawn.list.inputs.len());
-        drawn.list.steps[..done]
-            .iter()
-            .for_each(|step| ops[usize::from(step.op.code())] += 1);
+        for step in &drawn.list.steps[..done] {
+            ops[usize::from(step.op.code())] += 1;
+            shares.count(*step, |n| left.store.cell(n as usize).unwrap().header);
+        }
     }
+    shares.expect();
     runs.expect(&draws.endings([
         ("done", 10_000),
         ("refused=4", 100),

@@ -1,4 +1,5 @@
-//! The store and the run of step lists, against the reference's operators and document 01's own rules. The inputs are fixed; nothing is timed.
+//! The store and the run of step lists, against the reference's operators or, where document 02 departs from them, the standard's, and the
+//! documents' own rules. The inputs are fixed; nothing is timed.
 //!
 //! For a longer run the environment says how many inputs a test draws, and from which seed, not 0; at the repository's root:
 //!
@@ -16,3 +17,4 @@ mod files;
 mod lent;
 mod lists;
 mod refinement;
+mod shares;

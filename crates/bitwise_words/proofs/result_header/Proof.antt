@@ -1,9 +1,8 @@
 -- `bitwise_words::result_header`: by the operator.
-use mathlib.Core.Path.{_≡_, refl, ap, ap₂, _∙_}
-use mathlib.Core.Bool.{Bool, false, _&&_}
+use mathlib.Core.Path.{_≡_, refl, ap₂, _∙_}
+use mathlib.Core.Bool.{Bool, false}
 use mathlib.Core.List.{[], _∷_}
 use Prim.Native.Nat.{ℕ}
-use lib.Dec.{leb}
 use types.Run.{OneOf, miss}
 use denote.Enum.Declared.{tagOf}
 use Rattle.value.specs.declared.Header.{Header}
@@ -33,10 +32,8 @@ returns c =
 
 returns-2 : tie.Need-returns-2
 returns-2 c =
-    let t = c .before .before in
-    let l = t .before .before in
-    let a = l .before .args in
-    rw (t .enum-told .given .1) (ap (λ (w : ℕ). headerBy w (leb w 64 && (a .a .«is_signed» && a .b .«is_signed»))) (l .larger .ensures))
+    let t = c .before in
+    rw (t .enum-told .given .1) (ap₂ headerBy (t .before .before .larger .ensures) (c .both-signed .ensures))
 
 pub result-header-spec : {M : Type 1} → statement M
-result-header-spec = tie.close (tie.spec (λ c κs. search needs) (λ c κs. search needs) (λ c. search needs) returns returns-2)
+result-header-spec = tie.close (tie.spec (λ c κs. search needs) (λ c κs. search needs) (λ c. search needs) (λ c κs. search needs) returns returns-2)

@@ -1,4 +1,6 @@
-//! The tables of the reference's answers that crates/worked_cases replays without Rust; their lines are told in crates/replay/src/lib.rt.
+//! The tables of answers that crates/worked_cases replays without Rust; their lines are told in crates/replay/src/lib.rt. The answers are the
+//! reference's but for lines that end in one more field, the word `standard`: there document 02, point 2 touches the operands, and the answer is
+//! worked out in [`standard`](super::standard).
 mod bits;
 mod operators;
 mod text;
@@ -38,5 +40,6 @@ pub fn tables() -> [String; 4] {
     bits::lines(&mut rng, &mut bits, &mut made);
     operators::vector_lines(&mut rng, &mut vectors);
     operators::bit_lines(&mut rng, &mut answers);
+    operators::signed_lines(&mut rng, &mut vectors);
     [bits, made, vectors, answers].map(|lines| lines.iter().map(|line| format!("{line}\n")).collect())
 }

@@ -1,5 +1,4 @@
 //! Vectors, bits and answers as the table has them.
-use crate::reference::value::Value;
 use crate::reference::Vector;
 
 /// The bits of two planes below a width, highest first.
@@ -41,8 +40,8 @@ pub fn vector(v: &Vector) -> String {
 }
 
 /// An answer of one bit.
-pub fn bit(answer: Value) -> String {
-    let v = Vector::from(answer);
+pub fn bit(answer: impl Into<Vector>) -> String {
+    let v = answer.into();
     assert_eq!(v.header, Vector::plain(1, vec![], vec![]).header);
     bits(1, &v.value, &v.unknown)
 }

@@ -4,6 +4,7 @@ use crate::planes::word_count;
 use crate::reference::draw::Rng;
 use crate::reference::Vector;
 use crate::steps::{Op, Step};
+use crate::Header;
 
 /// Widths of few bits, at the edges of words, and of many words.
 const FEW: &[u32] = &[0, 1, 1, 2, 2, 3, 4, 5];
@@ -75,6 +76,12 @@ pub struct Drawn {
     pub largest: usize,
 }
 
+/// The first cell from one on, round the end, whose header is such.
+fn found(cells: &[Vector], from: u32, is_such: impl Fn(Header) -> bool) -> Option<u32> {
+    let mut numbers = (0..cells.len()).map(|k| (k + from as usize) % cells.len());
+    numbers.find(|n| is_such(cells[*n].header)).map(|n| n as u32)
+}
+
 impl Rng {
     fn member<'a, T>(&mut self, from: &'a [T]) -> &'a T {
         &from[self.below(from.len() as u64) as usize]
@@ -91,9 +98,9 @@ impl Rng {
             }
         };
         let may_fill = width > 0 || shape.has_faults && self.below(4) == 0;
-        (v.header.is_signed, v.header.is_fill) = match self.below(6) {
+        (v.header.is_signed, v.header.is_fill) = match self.below(8) {
             0..=2 => (false, false),
-            3 | 4 => (true, false),
+            3..=5 => (true, false),
             _ => (false, may_fill),
         };
         v
@@ -118,15 +125,28 @@ impl Rng {
     /// Two cells of one width that are no fills, or any two where there are none.
     fn arms(&mut self, cells: &[Vector]) -> (u32, u32) {
         let (b, c) = (self.cell(cells.len()), self.cell(cells.len()));
-        let plain = |n: usize| !cells[n].header.is_fill;
-        let Some(b) = (0..cells.len()).map(|k| (k + b as usize) % cells.len()).find(|n| plain(*n)) else {
+        let Some(b) = found(cells, b, |h| !h.is_fill) else {
             return (b, c);
         };
-        let width = cells[b].header.width;
-        let found = (0..cells.len())
-            .map(|k| (k + c as usize) % cells.len())
-            .find(|n| plain(*n) && cells[*n].header.width == width);
-        (b as u32, found.unwrap_or(b) as u32)
+        let width = cells[b as usize].header.width;
+        (b, found(cells, c, |h| !h.is_fill && h.width == width).unwrap_or(b))
+    }
+
+    /// In half of the draws two signed cells of two widths that are no fills, and in a quarter a fill on one side, where there are such; else any
+    /// two.
+    fn pair(&mut self, cells: &[Vector]) -> (u32, u32) {
+        let (a, b) = (self.cell(cells.len()), self.cell(cells.len()));
+        let is_signed = |h: Header| h.is_signed && !h.is_fill;
+        match self.below(8) {
+            0..=3 => {
+                let first = found(cells, a, is_signed).unwrap_or(a);
+                let second = found(cells, b, |h| is_signed(h) && h.width != cells[first as usize].header.width);
+                second.map_or((a, b), |second| (first, second))
+            }
+            4 => (found(cells, a, |h| h.is_fill).unwrap_or(a), b),
+            5 => (a, found(cells, b, |h| h.is_fill).unwrap_or(b)),
+            _ => (a, b),
+        }
     }
 
     /// A position about the edges of a vector, of its words, and of what is inserted.
@@ -146,6 +166,8 @@ impl Rng {
         let mut n = [(); 3].map(|()| self.cell(cells.len()));
         if op == Op::Select && !is_faulty {
             (n[1], n[2]) = self.arms(cells);
+        } else {
+            (n[0], n[1]) = self.pair(cells);
         }
         if is_faulty && self.below(3) > 0 {
             n[self.below(3) as usize] = self.no_cell(cells.len());

@@ -1,7 +1,8 @@
-//! The run of a step list by document 01: cells are vectors, results come from the reference's operators, and what is lent is kept whole, so
-//! that every word of it can be compared.
+//! The run of a step list by document 01: cells are vectors, results come from the reference's operators or, where document 02 departs from them,
+//! from the standard's, and what is lent is kept whole, so that every word of it can be compared.
 use super::list::{digits, List};
 use crate::planes::word_count;
+use crate::reference::standard::expected;
 use crate::reference::value::Value;
 use crate::reference::Vector;
 use crate::steps::{Op, Step};
@@ -38,28 +39,22 @@ fn put(planes: &mut [Vec<u64>; 2], at: usize, v: &Vector) {
 }
 
 /// What an op gives for its operands.
-fn result(op: Op, operand: impl Fn(usize) -> Value, position: u32) -> Value {
-    let of_one = |f: fn(&Value) -> Value| f(&operand(0));
-    let of_two = |f: fn(&Value, &Value) -> Value| f(&operand(0), &operand(1));
-    match op {
-        Op::And => of_two(Value::bitwise_and),
-        Op::Or => of_two(Value::bitwise_or),
-        Op::Xor => of_two(Value::bitwise_xor),
-        Op::Not => of_one(Value::bitwise_not),
-        Op::Merge => of_two(Value::merge_unknown),
-        Op::ReduceAnd => of_one(Value::reduce_and),
-        Op::ReduceOr => of_one(Value::reduce_or),
-        Op::ReduceXor => of_one(Value::reduce_xor),
-        Op::Equal => of_two(Value::is_equal),
-        Op::CaseEqual => of_two(Value::case_eq),
-        Op::CasezEqual => of_two(Value::casez_eq),
-        Op::CasexEqual => of_two(Value::casex_eq),
-        Op::WildcardEqual => of_two(Value::wildcard_eq),
-        Op::LogicAnd => of_two(Value::logic_and),
-        Op::LogicOr => of_two(Value::logic_or),
+fn result<'a>(op: Op, cell: impl Fn(usize) -> &'a Vector, position: u32) -> Vector {
+    let operand = |i: usize| cell(i).to_value();
+    let given = match op {
+        Op::Not => operand(0).bitwise_not(),
+        Op::ReduceAnd => operand(0).reduce_and(),
+        Op::ReduceOr => operand(0).reduce_or(),
+        Op::ReduceXor => operand(0).reduce_xor(),
+        Op::LogicAnd => operand(0).logic_and(&operand(1)),
+        Op::LogicOr => operand(0).logic_or(&operand(1)),
         Op::Select => select(&operand(0), operand(1), operand(2)),
         Op::Insert => insert(operand(0), &operand(1), position),
-    }
+        Op::And | Op::Or | Op::Xor | Op::Merge | Op::Equal | Op::CaseEqual | Op::CasezEqual | Op::CasexEqual | Op::WildcardEqual => {
+            return expected(op, cell(0), cell(1))
+        }
+    };
+    given.into()
 }
 
 fn select(condition: &Value, b: Value, c: Value) -> Value {
@@ -138,7 +133,7 @@ impl Machine {
         if op == Op::Select && (header(1).width != header(2).width || header(1).is_fill || header(2).is_fill) {
             return Err(7);
         }
-        let v = Vector::from(result(op, |i| self.cells[named[i]].to_value(), c));
+        let v = result(op, |i| &self.cells[named[i]], c);
         let at = self.room(v.value.len())?;
         if self.memory.scratch.iter().any(|plane| plane.len() < v.value.len()) {
             return Err(13);
