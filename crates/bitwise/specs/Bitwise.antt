@@ -1,4 +1,4 @@
--- Document 01, "Result vector": and, or, xor and merge of two vectors, not of one (IEEE 1800-2017, 11.4.8 and 11.4.11).
+-- Document 01, "Result vector", and document 02, point 2: and, or, xor and merge of two vectors, not of one (IEEE 1800-2017, 11.4.8 and 11.4.11).
 use Rattle.refusal.specs.Outcome.{Outcome, orRefuse}
 use Rattle.words.specs.Planes.{Planes}
 use Rattle.value.specs.declared.Header.{Header}

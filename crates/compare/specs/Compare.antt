@@ -1,5 +1,5 @@
--- Document 01, "Answer bit": the entries of equality (IEEE 1800-2017, 11.4.5), case, casez and casex equality (12.5) and wildcard equality
--- (11.4.6), over the comparisons of `compare_words`.
+-- Document 01, "Answer bit", and document 02, point 2: the entries of equality (IEEE 1800-2017, 11.4.5), case, casez and casex equality (12.5) and
+-- wildcard equality (11.4.6), over the comparisons of `compare_words`.
 use Rattle.bit.specs.declared.LogicBit.{LogicBit}
 use Rattle.refusal.specs.Outcome.{Answer, after}
 use Rattle.refusal.specs.Outcome.Answer.{given}

@@ -1,4 +1,5 @@
--- Document 01, "Answer bit": equality (IEEE 1800-2017, 11.4.5), case, casez and casex equality (12.5), wildcard equality (11.4.6).
+-- Document 01, "Answer bit", and document 02, point 2: equality (IEEE 1800-2017, 11.4.5), case, casez and casex equality (12.5), wildcard equality
+-- (11.4.6).
 use mathlib.Core.Bool.{Bool, false, not, _&&_, _||_, cond}
 use mathlib.Core.List.{List, [], _∷_}
 use Prim.Native.Nat.{ℕ, suc, _-_, _*_, _^_, min}

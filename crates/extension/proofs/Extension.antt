@@ -4,7 +4,8 @@
 --     no-top                            the top bit of a vector that has none is 0
 --     extent-narrow                     it is no wider than the operand
 --     settled                           two operands put together as their extents say
---     inside, read-plain                an operand that is no fill is read as it stands, but for a top bit that extends it
+--     inside                            a place below the width is read as it stands
+--     read-left, read-right             two operands that are no fills, and of equal width if both are signed, are read as they stand
 use mathlib.Core.Path.{_≡_, refl, ap, ap₂, _∙_}
 use mathlib.Core.Bool.{Bool, true, false, not, _&&_, cond}
 use mathlib.Core.List.{List, [], _∷_}
@@ -16,12 +17,13 @@ use lib.Dec.{T, eqb}
 use lib.ListN.{length, getD}
 use Rattle.bit.specs.declared.LogicBit.{LogicBit}
 use Rattle.bit.specs.declared.LogicBit.the-variants.{Zero}
+use Rattle.bit.proofs.Tests.{and-left, and-right, and-intro}
 use Rattle.words.specs.Vector.{at, tabulate}
 use Rattle.words.specs.Planes.{fromPlanes, Planes, lent}
 use Rattle.value.specs.declared.Header.{Header}
 use Rattle.extension.specs.declared.Extent.{Extent}
 use Rattle.value.specs.Checks.{Vector, vector}
-use Rattle.extension.specs.Extension.{top, bothSigned, extension, operandAt, extentOf, extentAt}
+use Rattle.extension.specs.Extension.{largerWidth, top, readSigned, bothSigned, extension, operandAt, extentOf, extentAt}
 
 abbrev pub extentOver : ℕ → LogicBit → Extent
 extentOver w b = record { width = w; beyond = b }
@@ -74,15 +76,15 @@ module _ {A : Type 0} (f : LogicBit → LogicBit → A) (a b : Header) (av au bv
       ∙ (λ k. tabulate w (λ i. f (extent-at a b av au i k) (extent-at b a bv bu i k)))
       ∙ ap (λ (n : ℕ). tabulate n (λ i. f (operandAt (vector a (lent av au)) b i) (operandAt (vector b (lent bv bu)) a i))) hw
 
--- ---- an operand that is no fill
+-- ---- operands that are no fills
 
 pub inside : (bs : List LogicBit) (i : ℕ) (d : LogicBit) → i < length bs → getD bs i d ≡ at bs i
 inside [] i d h = absurd (not-suc-le-zero h)
 inside (x ∷ xs) zero d h = refl
 inside (x ∷ xs) (suc i) d h = inside xs i d (le-of-suc-le-suc h)
 
--- it is read as it stands, with 0 from its width on, if it is not extended by its top bit, and below its width
-pub read-plain : (a : Vector) (b : Header) (i : ℕ) → T (not (a .header .«is_fill»)) → (T (bothSigned (a .header) b) → i < length (a .bits))
+-- one is read as it stands, with 0 from its width on, if it is not extended by its top bit, and below its width
+read-plain : (a : Vector) (b : Header) (i : ℕ) → T (not (a .header .«is_fill»)) → (T (bothSigned (a .header) b) → i < length (a .bits))
     → operandAt a b i ≡ at (a .bits) i
 read-plain a b i = go (a .header .«is_fill») (bothSigned (a .header) b)
   where
@@ -90,3 +92,20 @@ read-plain a b i = go (a .header .«is_fill») (bothSigned (a .header) b)
     go true z n h = absurd n
     go false true n h = inside (a .bits) i (top (a .bits)) (h tt)
     go false false n h = refl
+
+-- of equal width if both are signed
+abbrev pub Plainly : Header → Header → Type 0
+Plainly a b = T (bothSigned a b) → a .width ≡ b .width
+
+turned : (a b : Header) → T (bothSigned b a) → T (bothSigned a b)
+turned a b t =
+    and-intro (readSigned a) (readSigned b) (and-right (readSigned b) (readSigned a) t) (and-left (readSigned b) (readSigned a) t)
+
+module _ (a b : Vector) (la : length (a .bits) ≡ a .header .width) (lb : length (b .bits) ≡ b .header .width)
+    (na : T (not (a .header .«is_fill»))) (nb : T (not (b .header .«is_fill»))) (c : Plainly (a .header) (b .header))
+    (i : ℕ) (l : i < largerWidth (a .header) (b .header)) where
+  pub read-left : operandAt a (b .header) i ≡ at (a .bits) i
+  read-left = read-plain a (b .header) i na (λ t. let e = c t in omega (arith, la))
+
+  pub read-right : operandAt b (a .header) i ≡ at (b .bits) i
+  read-right = read-plain b (a .header) i nb (λ t. let e = c (turned (a .header) (b .header) t) in omega (arith, lb))

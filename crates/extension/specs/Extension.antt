@@ -1,6 +1,6 @@
--- How every operator of two operands reads each of them beside the other: document 02, point 2. Both are read at the larger width (IEEE 1800-2017,
--- 11.6.1). A fill is stretched to it, so that all its bits are its bit 0, and is then unsigned (5.7.1). Two signed operands are extended by their top
--- bits, x and z included, all others by 0 (11.8.2, 11.8.4).
+-- How and, or, xor, merge and the comparisons of vectors read each of their two operands beside the other: document 02, point 2. Both are read at the
+-- larger width (IEEE 1800-2017, 11.6.1). A fill is stretched to it, so that all its bits are its bit 0, and is then unsigned (5.7.1). Two signed
+-- operands are extended by their top bits, x and z included, all others by 0 (11.8.2, 11.8.4).
 use mathlib.Core.Bool.{Bool, not, _&&_, cond}
 use mathlib.Core.List.{List}
 use Prim.Native.Nat.{ℕ, _-_, _≤_, max}

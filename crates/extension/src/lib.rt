@@ -1,5 +1,5 @@
-// How every operator of two operands reads each of them: extended to the larger width, by the top bit where both are signed, and a fill
-// stretched.
+// How and, or, xor, merge and the comparisons read each of their two operands: extended to the larger width, by the top bit where both are
+// signed, and a fill stretched.
 use bit::LogicBit;
 use value::Header;
 ghost use mathlib.Core.Path.{_≡_};

@@ -6,8 +6,6 @@ use mathlib.Core.Bool.{not}
 use mathlib.Core.Logic.{⊎-elim}
 use mathlib.Core.List.{foldr}
 use Prim.Native.Nat.{ℕ, zero, suc, _<_, _≤_}
-use native.Mathlib.Omega.{arith}
-use lib.Dec.{T}
 use lib.ListN.{length, List·getD-eq-default}
 use Rattle.bit.specs.declared.LogicBit.{LogicBit}
 use Rattle.bit.specs.declared.LogicBit.the-variants.{Zero, One, X}
@@ -18,8 +16,8 @@ use Rattle.words.proofs.Digits.{lt-or-ge}
 use Rattle.words.proofs.Planes.{length-tabulate, getD-tabulate, getD-tabulate-out, eq-tabulate}
 use Rattle.value.specs.declared.Header.{Header}
 use Rattle.value.specs.Checks.{Vector}
-use Rattle.extension.specs.Extension.{largerWidth, readSigned, bothSigned, operandAt}
-use Rattle.extension.proofs.Extension.{read-plain}
+use Rattle.extension.specs.Extension.{largerWidth, readSigned, operandAt}
+use Rattle.extension.proofs.Extension.{Plainly, read-left, read-right}
 use Rattle.reduce_words.proofs.Folds.{and-fold}
 use Rattle.compare_words.specs.declared.Comparison.the-variants as comparison
 use Rattle.compare_words.specs.Compared.{compared}
@@ -81,11 +79,10 @@ pub record Paired (a b : Vector) : Type 0 where
   pub comparable : Comparable (a .header) (b .header)
 
 -- operands that are read as signed are marked so
-signs : (a b : Header) → T (bothSigned a b) → T (a .«is_signed») × T (b .«is_signed»)
-signs a b t = (
-  and-right (not (a .«is_fill»)) (a .«is_signed») (and-left (readSigned a) (readSigned b) t),
-  and-right (not (b .«is_fill»)) (b .«is_signed») (and-right (readSigned a) (readSigned b) t),
-)
+comparable-plainly : (a b : Header) → Comparable a b → Plainly a b
+comparable-plainly a b p t =
+    p .2 (and-right (not (a .«is_fill»)) (a .«is_signed») (and-left (readSigned a) (readSigned b) t))
+    (and-right (not (b .«is_fill»)) (b .«is_signed») (and-right (readSigned a) (readSigned b) t))
 
 -- the and of the first n places
 paired : ℕ → (f g : ℕ → LogicBit) → LogicBit
@@ -101,8 +98,8 @@ equal-paired a b h =
     ∙ ap (foldr andBit One)
     (eq-tabulate n (λ i. sameBit (at (a .bits) i) (at (b .bits) i)) (tabulate n f) Zero (length-tabulate n f)
     (λ i l. getD-tabulate n f i Zero l ∙ ap₂ sameBit
-    (read-plain a (b .header) i (p .0) (λ t. let s = signs (a .header) (b .header) t in let e = p .2 (s .0) (s .1) in omega (arith, h .left)))
-    (read-plain b (a .header) i (p .1) (λ t. let s = signs (b .header) (a .header) t in let e = p .2 (s .1) (s .0) in omega (arith, h .right)))))
+    (read-left a b (h .left) (h .right) (p .0) (p .1) (comparable-plainly (a .header) (b .header) p) i l)
+    (read-right a b (h .left) (h .right) (p .0) (p .1) (comparable-plainly (a .header) (b .header) p) i l)))
 
 -- a bit before the others
 abbrev prepended : LogicBit → (ℕ → LogicBit) → ℕ → LogicBit

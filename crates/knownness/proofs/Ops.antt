@@ -3,7 +3,7 @@
 --     Accepted      operands that are in order
 --     made-form, given-form     the result has that at place i, and a completion gives it
 --     Law, law      the form of an op keeps known bits if the op does, and is exact if the op is
-use mathlib.Core.Path.{_≡_, refl, _∙_, ap, ap₂, subst}
+use mathlib.Core.Path.{_≡_, refl, sym, _∙_, ap, ap₂, subst}
 use mathlib.Core.Bool.{Bool, true, false, not, _&&_, _||_, cond}
 use mathlib.Core.List.{[], _∷_}
 use Prim.Native.Nat.{ℕ, zero, suc, _+_, _-_, _<_}
@@ -25,7 +25,7 @@ use Rattle.lanes.specs.declared.Bitwise.{Bitwise}
 use Rattle.lanes.specs.declared.Bitwise.the-variants as bitwise
 use Rattle.lanes.specs.Lanes.{opBit}
 use Rattle.extension.specs.Extension.{largerWidth, operandAt}
-use Rattle.extension.proofs.Extension.{read-plain}
+use Rattle.extension.proofs.Extension.{read-left, read-right}
 use Rattle.reduce_words.specs.declared.Truth.{Truth}
 use Rattle.reduce_words.specs.declared.Truth.the-variants as truth
 use Rattle.reduce_words.specs.Fold.{reduceAnd, reduceOr, reduceXor, truthOf, truthBit}
@@ -96,8 +96,8 @@ select-form a b c f truth.Unknown i l =
     let p = no-fills (not (eqb (b .header .width) (c .header .width))) (b .header .«is_fill») (c .header .«is_fill») (f .arms) in
     let e = arms-alike (b .header) (c .header) (f .arms) in
     getD-tabulate n _ i Zero m
-    ∙ ap₂ (selectBit X) (read-plain b (c .header) i (p .0) (λ _. omega (arith, f .second, e)))
-    (read-plain c (b .header) i (p .1) (λ _. omega (arith, f .third, e)))
+    ∙ ap₂ (selectBit X) (read-left b c (f .second) (f .third) (p .0) (p .1) (λ _. sym e) i m)
+    (read-right b c (f .second) (f .third) (p .0) (p .1) (λ _. sym e) i m)
 
 insert-form : (b : Vector) (pos n i : ℕ) (x : LogicBit) → n < 65
     → cond (within pos n i) (bitOf (packed (at (b .bits))) (i - pos)) x ≡ cond (within pos n i) (at (b .bits) (i - pos)) x

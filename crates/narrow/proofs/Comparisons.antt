@@ -15,11 +15,12 @@ use Rattle.value.specs.Checks.{plain, vector}
 use Rattle.reduce_words.specs.Fold.{anyOf}
 use Rattle.reduce_words.proofs.Gather.{gather-cong}
 use Rattle.reduce_words.proofs.Places.{any-some}
+use Rattle.extension.proofs.Extension.{Plainly}
 use Rattle.compare_words.specs.declared.Comparison.{Comparison}
 use Rattle.compare_words.specs.Compared.{mismatch, unsure, onPair, decided, places, compared, wordPlaces}
 use Rattle.compare_words.proofs.Places.{zeros, zero-apart, zero-unsure}
 use Rattle.narrow.specs.Narrow.{single, plain64}
-use Rattle.narrow.proofs.Operands.{Narrow, Plainly, plain-narrow, paired, in-a-word}
+use Rattle.narrow.proofs.Operands.{Narrow, plain-narrow, paired, in-a-word}
 
 module _ (op : Comparison) (a b : Header) (x y : Word) (n : Narrow a x) (m : Narrow b y) (c : Plainly a b) where
   some-place : (t : LogicBit → LogicBit → Bool) → t Zero Zero ≡ false

@@ -20,6 +20,7 @@ use Rattle.words.proofs.Planes.{getD-tabulate, length-tabulate, eq-tabulate}
 use Rattle.value.specs.declared.Header.{Header}
 use Rattle.value.specs.Checks.{plain, vector}
 use Rattle.extension.specs.Extension.{largerWidth}
+use Rattle.extension.proofs.Extension.{Plainly}
 use Rattle.lanes.specs.declared.Bitwise.{Bitwise}
 use Rattle.lanes.specs.declared.Bitwise.the-variants.{And, Or, Xor, Merge}
 use Rattle.lanes.specs.Lanes.{opBit, laneWord}
@@ -28,7 +29,7 @@ use Rattle.lanes.proofs.Places.{laneOne, cutWord}
 use Rattle.bitwise_words.specs.Joined.{joined, inverted}
 use Rattle.narrow.specs.Narrow.{single, plain64}
 use Rattle.narrow.proofs.Singles.{placeOf, place, one-word}
-use Rattle.narrow.proofs.Operands.{Narrow, Plainly, plain-narrow, pairedAt, paired, in-a-word}
+use Rattle.narrow.proofs.Operands.{Narrow, plain-narrow, pairedAt, paired, in-a-word}
 
 -- ---- and, or, xor and merge
 

@@ -1,5 +1,5 @@
--- Document 01, "Step list": the ops. Each is worked out as the section "Result vector" or "Answer bit" has it; select and insert are told in
--- "Step list" itself.
+-- Document 01, "Step list": the ops. Each is worked out as the section "Result vector" or "Answer bit" has it, or document 02, point 2; select and
+-- insert are told in "Step list" itself.
 use mathlib.Core.Bool.{Bool, false, not, _&&_, _||_}
 use mathlib.Core.List.{List, [], _∷_}
 use Prim.Native.Nat.{ℕ}

@@ -2,7 +2,8 @@
 -- What demand 3 assumes can be met, and of these runs the cells, a bit that is kept and the exact steps of the first are said outright.
 --     left, left-refined     the cells that the two runs leave
 --     kept-zero              a bit that is known stays
---     exact-step             each of the three steps of the first run is known exactly; the last is an equality
+--     exact-step             each of the three steps of the first run is known exactly; the first extends an operand by its top bit, which is
+--                            unknown, and the last is an equality
 --     text-case              demand 3 of what `run` computes of their texts
 use mathlib.Core.Path.{_≡_, refl, sym, subst}
 use mathlib.Core.Logic.{inl, inr}
@@ -41,9 +42,9 @@ unsigned bs = record { header = plain (length bs); bits = bs }
 abbrev signed : List LogicBit → Vector
 signed bs = record { header = record { width = length bs; «is_signed» = true; «is_fill» = false }; bits = bs }
 
--- 1p, signed 01, xq: where p is x and q is z, and where p is 1 and q is 0
+-- signed p1, 01 and q01: where p is x and q is z, and where p is 1 and q is 0
 abbrev inputs : LogicBit → LogicBit → List Vector
-inputs p q = unsigned (p ∷ One ∷ []) ∷ signed (One ∷ Zero ∷ []) ∷ unsigned (q ∷ X ∷ []) ∷ []
+inputs p q = signed (One ∷ p ∷ []) ∷ signed (One ∷ Zero ∷ []) ∷ signed (One ∷ Zero ∷ q ∷ []) ∷ []
 
 abbrev A : List Vector
 A = inputs X Z
@@ -52,7 +53,7 @@ abbrev B : List Vector
 B = inputs One Zero
 
 abbrev ss : List Step
-ss = record { op = And; a = 0; b = 1; c = 0 } ∷ record { op = ReduceOr; a = 3; b = 0; c = 0 } ∷ record { op = Equal; a = 0; b = 1; c = 0 } ∷ []
+ss = record { op = And; a = 0; b = 2; c = 0 } ∷ record { op = ReduceOr; a = 3; b = 0; c = 0 } ∷ record { op = Equal; a = 0; b = 1; c = 0 } ∷ []
 
 abbrev m : LentMemory
 m = record { arenas = lent (7 ∷ 7 ∷ 7 ∷ 7 ∷ 7 ∷ 7 ∷ []) (9 ∷ 9 ∷ 9 ∷ 9 ∷ 9 ∷ 9 ∷ []); scratch = lent (7 ∷ 7 ∷ []) (1 ∷ []) }
@@ -81,13 +82,16 @@ by-headers = (refl, (refl, (refl, tt {0})))
 refined : Cellwise Refines (inputCells A) (inputCells B)
 refined = (refl, go)
   where
-    first : (i : ℕ) → Refines (at (X ∷ One ∷ []) i) (at (One ∷ One ∷ []) i)
-    first zero = inr (tt, tt)
-    first (suc i) = inl refl
+    first : (i : ℕ) → Refines (at (One ∷ X ∷ []) i) (at (One ∷ One ∷ []) i)
+    first zero = inl refl
+    first (suc zero) = inr (tt, tt)
+    first (suc (suc i)) = inl refl
 
-    last : (i : ℕ) → Refines (at (Z ∷ X ∷ []) i) (at (Zero ∷ X ∷ []) i)
-    last zero = inr (tt, tt)
-    last (suc i) = inl refl
+    last : (i : ℕ) → Refines (at (One ∷ Zero ∷ Z ∷ []) i) (at (One ∷ Zero ∷ Zero ∷ []) i)
+    last zero = inl refl
+    last (suc zero) = inl refl
+    last (suc (suc zero)) = inr (tt, tt)
+    last (suc (suc (suc i))) = inl refl
 
     go : (j : ℕ) → Pointwise Refines (vectorAt (inputCells A) j) (vectorAt (inputCells B) j)
     go zero = (refl, refl, first)
@@ -118,10 +122,10 @@ abbrev result : List LogicBit → Cell
 result bs = holding (unsigned bs)
 
 abbrev cells : List Cell
-cells = inputCells A ++ (result (X ∷ Zero ∷ []) ∷ result (X ∷ []) ∷ result (Zero ∷ []) ∷ [])
+cells = inputCells A ++ (result (One ∷ Zero ∷ X ∷ []) ∷ result (One ∷ []) ∷ result (X ∷ []) ∷ [])
 
 abbrev cellsRefined : List Cell
-cellsRefined = inputCells B ++ (result (One ∷ Zero ∷ []) ∷ result (One ∷ []) ∷ result (Zero ∷ []) ∷ [])
+cellsRefined = inputCells B ++ (result (One ∷ Zero ∷ Zero ∷ []) ∷ result (One ∷ []) ∷ result (Zero ∷ []) ∷ [])
 
 pub left : cellsLeft (runOn m A ss) ≡ cells
 unfolding runFrom checkStep wordsTaken tabulate
@@ -141,8 +145,8 @@ exact-step k l = subst (λ c. ExactStep (take (3 + k) c) (stepAt ss k) (vectorAt
     inside = subst (λ (c : List Cell). 3 + k < length c) (sym left) (omega arith)
 
     equal : (k : ℕ) → k < 3 → EqualWidths (take (3 + k) cells) (stepAt ss k)
-    equal zero l e = refl
-    equal (suc zero) l e = refl
+    equal zero l e = let z : _≡_ {A = ℕ} 0 1 = cc in absurd (omega arith)
+    equal (suc zero) l e = let z : _≡_ {A = ℕ} 0 1 = cc in absurd (omega arith)
     equal (suc (suc zero)) l e = refl
     equal (suc (suc (suc k))) l e = absurd (omega arith)
 

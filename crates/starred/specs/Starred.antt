@@ -1,15 +1,18 @@
 -- The cases of document 01, "Cases on either side", that are marked with a star, and cases of document 02, point 2, over the definitions that the
 -- contracts cite. A vector is written highest bit first, each bit by its code: 0, 1, x or z.
 use mathlib.Core.Path.{_≡_}
-use mathlib.Core.Bool.{true, false}
+use mathlib.Core.Bool.{Bool, true, false, cond}
 use mathlib.Core.List.{List, [], _∷_, map, reverse}
 use Prim.Native.Nat.{ℕ}
 use lib.ListN.{length}
 use Rattle.bit.specs.declared.LogicBit.{LogicBit}
+use Rattle.bit.specs.declared.LogicBit.the-variants.{Zero, One}
 use Rattle.bit.specs.Rules.{ofCode}
+use Rattle.value.specs.declared.Header.{Header}
 use Rattle.value.specs.Checks.{Vector}
+use Rattle.lanes.specs.declared.Bitwise.{Bitwise}
 use Rattle.lanes.specs.declared.Bitwise.the-variants.{And, Or, Xor, Merge}
-use Rattle.bitwise_words.specs.Joined.{joined, inverted}
+use Rattle.bitwise_words.specs.Joined.{joined, inverted, resultSigned}
 use Rattle.reduce_words.specs.Fold.{reduceAnd, reduceOr, reduceXor}
 use Rattle.compare_words.specs.declared.Comparison.the-variants.{Equal, CaseEqual, CasezEqual, WildcardEqual}
 use Rattle.compare_words.specs.Compared.{compared}
@@ -23,17 +26,29 @@ z = 3
 abbrev bits : List ℕ → List LogicBit
 bits codes = reverse (map ofCode codes)
 
+-- a width, and whether it is signed and a fill
+abbrev marked : ℕ → Bool → Bool → Header
+marked w signed fill = record { width = w; «is_signed» = signed; «is_fill» = fill }
+
 -- an unsigned vector
 abbrev u : List ℕ → Vector
-u codes = record { header = record { width = length codes; «is_signed» = false; «is_fill» = false }; bits = bits codes }
+u codes = record { header = marked (length codes) false false; bits = bits codes }
 
 -- a signed vector
 abbrev s : List ℕ → Vector
-s codes = record { header = record { width = length codes; «is_signed» = true; «is_fill» = false }; bits = bits codes }
+s codes = record { header = marked (length codes) true false; bits = bits codes }
 
 -- an unsigned fill
 abbrev f : List ℕ → Vector
-f codes = record { header = record { width = length codes; «is_signed» = false; «is_fill» = true }; bits = bits codes }
+f codes = record { header = marked (length codes) false true; bits = bits codes }
+
+-- a fill that is marked signed
+abbrev g : List ℕ → Vector
+g codes = record { header = marked (length codes) true true; bits = bits codes }
+
+-- the sign of a result: 1 if it is signed
+abbrev sign : Bitwise → Header → Header → List LogicBit
+sign op a b = cond (resultSigned op a b) One Zero ∷ []
 
 -- what a definition gives, and what the document says
 pub record Case : Type 0 where
@@ -67,18 +82,30 @@ starred =
     ∷ (compared CaseEqual (s (x ∷ [])) (s (x ∷ x ∷ x ∷ [])) ∷ []) is (1 ∷ [])
     ∷ []
 
--- operands of two widths, extended by the top bit if both are signed, else by 0; and fills, stretched
+-- operands of two widths, extended by the top bit if both are signed, else by 0; fills, stretched; the sign of a merge
 abbrev pub pointTwo : List Case
 pointTwo =
     joined Or (s (1 ∷ [])) (s (0 ∷ 0 ∷ [])) is (1 ∷ 1 ∷ [])
     ∷ joined Or (s (1 ∷ [])) (u (0 ∷ 0 ∷ [])) is (0 ∷ 1 ∷ [])
+    ∷ joined Or (u (1 ∷ [])) (s (0 ∷ 0 ∷ [])) is (0 ∷ 1 ∷ [])
     ∷ joined Or (s []) (s (1 ∷ 0 ∷ [])) is (1 ∷ 0 ∷ [])
     ∷ joined And (s (z ∷ [])) (s (1 ∷ 0 ∷ 1 ∷ [])) is (x ∷ 0 ∷ x ∷ [])
     ∷ joined Xor (s (x ∷ 0 ∷ [])) (s (0 ∷ 1 ∷ 0 ∷ 0 ∷ [])) is (x ∷ x ∷ x ∷ 0 ∷ [])
     ∷ joined Merge (s (1 ∷ [])) (s (1 ∷ 1 ∷ [])) is (1 ∷ 1 ∷ [])
+    ∷ (compared CaseEqual (s (z ∷ [])) (s (z ∷ z ∷ z ∷ [])) ∷ []) is (1 ∷ [])
     ∷ joined Merge (u (1 ∷ 1 ∷ 1 ∷ 1 ∷ [])) (f (1 ∷ [])) is (1 ∷ 1 ∷ 1 ∷ 1 ∷ [])
     ∷ joined Merge (f (0 ∷ 1 ∷ 1 ∷ [])) (s (1 ∷ [])) is (x ∷ x ∷ 1 ∷ [])
     ∷ joined Merge (f (0 ∷ 1 ∷ [])) (f (1 ∷ [])) is (1 ∷ 1 ∷ [])
+    ∷ joined Merge (s (1 ∷ [])) (g (1 ∷ 1 ∷ [])) is (x ∷ 1 ∷ [])
     ∷ (compared WildcardEqual (u (1 ∷ 1 ∷ 1 ∷ 1 ∷ [])) (f (1 ∷ [])) ∷ []) is (1 ∷ [])
-    ∷ (compared WildcardEqual (s (1 ∷ [])) (f (0 ∷ 1 ∷ [])) ∷ []) is (0 ∷ [])
+    ∷ (compared WildcardEqual (g (1 ∷ 1 ∷ [])) (s (1 ∷ [])) ∷ []) is (0 ∷ [])
+    ∷ (compared CaseEqual (u (x ∷ x ∷ [])) (f (x ∷ [])) ∷ []) is (1 ∷ [])
+    ∷ (compared CaseEqual (u (z ∷ z ∷ [])) (f (z ∷ [])) ∷ []) is (1 ∷ [])
+    ∷ sign Merge (marked 65 true false) (marked 1 true false) is (1 ∷ [])
+    ∷ sign Merge (marked 0 true false) (marked 0 true false) is (1 ∷ [])
+    ∷ sign Merge (marked 4 true false) (marked 4 false false) is (0 ∷ [])
+    ∷ sign Merge (marked 4 false false) (marked 4 true false) is (0 ∷ [])
+    ∷ sign Merge (marked 4 true false) (marked 4 true true) is (0 ∷ [])
+    ∷ sign Merge (marked 4 true true) (marked 4 true true) is (0 ∷ [])
+    ∷ sign Or (marked 4 true false) (marked 4 true false) is (0 ∷ [])
     ∷ []

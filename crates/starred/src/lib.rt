@@ -1,1 +1,2 @@
-// No code: the cases that document 01 marks with a star, as one table over the definitions (specs/Starred.antt), and its proof.
+// No code: the cases that document 01 marks with a star, and cases of document 02, point 2, each as one table over the definitions
+// (specs/Starred.antt), and their proofs.
