@@ -1,7 +1,7 @@
 // Calls of the entries through `fourstate`, each compared with its answer; the crate `replay` tells how a table is written. The tables in
 // `worked` have cases of the documents and of each edge; each call that agrees is written, and the file `stdout` holds them. The tables in
-// `answers` have the reference's answers to drawn inputs, of which those that agree are counted; a line that ends in the word `standard` has
-// operands that document 02, point 2, touches, and the standard's answer. At the repository's root
+// `answers` have the reference's answers to drawn inputs, of which those that agree are counted. A line that ends in the word `standard`
+// has operands that document 02, point 2, touches, and the standard's answer. At the repository's root
 //
 //     cargo run --offline --manifest-path rust/Cargo.toml --features reference --bin answers bits >crates/worked_cases/data/answers/bits
 //
