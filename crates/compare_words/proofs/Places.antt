@@ -2,12 +2,15 @@
 --     zero-apart, zero-unsure     two zeros neither mismatch nor leave the answer open
 --     one-apart, one-unsure       nor do two ones
 --     answer-found                what a scan finds gives the answer
---     found-at, found-none        what is found where a place mismatches and none below it does; where the scan ends without a mismatch
+--     none-clear, lowest-at       no member passes a test; one passes, and none before it does
+--     found-at                    what is found where a place mismatches and none below it does
+--     found-open, found-same      what is found where the scan ends without a mismatch: the lowest unsure place; none
 --     equal-and                   equality is the and-reduction of the places, each by whether its bits are the same
 use mathlib.Core.Path.{_≡_, refl, sym, ap, ap₂, _∙_}
 use mathlib.Core.Bool.{Bool, true, false, not, _||_, cond}
 use mathlib.Core.List.{List, [], _∷_}
-use Prim.Native.Nat.{ℕ, zero, suc, _*_, _≤_}
+use Prim.Native.Nat.{ℕ, zero, suc, _*_, _≤_, _<_, suc-le-suc}
+use native.Mathlib.Nat.{zero-lt-suc}
 use native.Mathlib.Omega.{arith}
 use lib.Dec.{eqb}
 use lib.ListN.{length, getD}
@@ -17,10 +20,8 @@ use Rattle.bit.specs.Rules.{same, notBit, xorBit}
 use Rattle.words.specs.Vector.{tabulate}
 use Rattle.value.specs.Checks.{Vector}
 use Rattle.reduce_words.specs.Fold.{anyOf, isUnknown, reduceAnd}
-use Rattle.reduce_words.proofs.Scanned.{gather, some, Scanned}
 use Rattle.reduce_words.proofs.Gather.{gather-cong}
 use Rattle.reduce_words.proofs.Places.{any-tabulate}
-use Rattle.reduce_words.proofs.Scan.{none-left, open-told}
 use Rattle.extension.specs.Extension.{largerWidth, operandAt}
 use Rattle.compare_words.specs.declared.Comparison.{Comparison}
 use Rattle.compare_words.specs.declared.Comparison.the-variants.{Equal, CaseEqual, CasezEqual, CasexEqual, WildcardEqual}
@@ -58,25 +59,29 @@ module _ (op : Comparison) where
 pub answer-found : (op : Comparison) (ps : List (LogicBit × LogicBit)) → foundBit (found op ps) ≡ decided op ps
 answer-found op ps = go (anyOf (onPair (mismatch op)) ps) (anyOf (onPair (unsure op)) ps)
   where
-    go : (m d : Bool) → foundBit (cond m (Mismatch (lowest (onPair (mismatch op)) ps)) (cond d Unsure Same)) ≡ cond m Zero (cond d X One)
+    go : (m d : Bool)
+        → foundBit (cond m (Mismatch (lowest (onPair (mismatch op)) ps)) (cond d (Unsure (lowest (onPair (unsure op)) ps)) Same)) ≡ cond m Zero (cond d X One)
     go true d = refl
     go false true = refl
     go false false = refl
 
-neither : (a b : Bool) → (a || b) ≡ false → (a ≡ false) × (b ≡ false)
-neither true b h = let z : _≡_ {A = ℕ} 0 1 = cc in absurd (omega arith)
-neither false b h = (refl, h)
+module _ {A : Type 0} (p : A → Bool) (e : A) where
+  -- none of the first n members passes; beyond its end the list is continued by e
+  abbrev pub Clear : List A → ℕ → Type 0
+  Clear bs n = (i : ℕ) → i < n → p (getD bs i e) ≡ false
 
-module _ {A : Type 0} (p : A → Bool) (e : A) (fails : p e ≡ false) where
+  pub none-clear : (bs : List A) → Clear bs (length bs) → anyOf p bs ≡ false
+  none-clear [] h = refl
+  none-clear (b ∷ bs) h = ap₂ _||_ (h 0 (zero-lt-suc (length bs))) (none-clear bs (λ i l. h (suc i) (suc-le-suc l)))
+
   -- a member that passes, with none before it, is the lowest
-  lowest-at : (bs : List A) (i : ℕ) → some i (λ i. p (getD bs i e)) ≡ false → p (getD bs i e) ≡ true → (anyOf p bs ≡ true) × (lowest p bs ≡ i)
-  unfolding gather
-  lowest-at [] i h t = let z : _≡_ {A = ℕ} 0 1 = cc in absurd (omega arith)
-  lowest-at (b ∷ bs) zero h t = (ap (λ (z : Bool). z || anyOf p bs) t, ap (λ (z : Bool). cond z 0 (suc (lowest p bs))) t)
-  lowest-at (b ∷ bs) (suc i) h t =
-      let q = neither (p b) (some i (λ i. p (getD bs i e))) h in
-      let r = lowest-at bs i (q .1) t in
-      (ap₂ _||_ (q .0) (r .0), ap₂ (λ (z : Bool) (n : ℕ). cond z 0 (suc n)) (q .0) (r .1))
+  pub lowest-at : p e ≡ false → (bs : List A) (i : ℕ) → Clear bs i → p (getD bs i e) ≡ true → (anyOf p bs ≡ true) × (lowest p bs ≡ i)
+  lowest-at fails [] i h t = let z : _≡_ {A = ℕ} 0 1 = cc in absurd (omega arith)
+  lowest-at fails (b ∷ bs) zero h t = (ap (λ (z : Bool). z || anyOf p bs) t, ap (λ (z : Bool). cond z 0 (suc (lowest p bs))) t)
+  lowest-at fails (b ∷ bs) (suc i) h t =
+      let first = h 0 (zero-lt-suc i) in
+      let r = lowest-at fails bs i (λ j l. h (suc j) (suc-le-suc l)) t in
+      (ap₂ _||_ first (r .0), ap₂ (λ (z : Bool) (n : ℕ). cond z 0 (suc n)) first (r .1))
 
 turned : {A : Type 0} (x y : A) (z : Bool) → cond (not z) x y ≡ cond z y x
 turned x y true = refl
@@ -87,25 +92,39 @@ abbrev pub answered : Bool → ℕ → LogicBit
 answered m d = cond m Zero (cond (eqb d 0) One X)
 
 module _ (op : Comparison) (ps : List (LogicBit × LogicBit)) where
-  abbrev pub Compared : ℕ → ℕ → Type 0
-  Compared = Scanned (onPair (mismatch op)) (onPair (unsure op)) zeros zeros ps
-
   pub by-tests : (m : Bool) (d : ℕ) → anyOf (onPair (mismatch op)) ps ≡ m → anyOf (onPair (unsure op)) ps ≡ not (eqb d 0)
       → answered m d ≡ decided op ps
   by-tests m d hm hd = sym (ap₂ (λ (x y : Bool). cond x Zero (cond y X One)) hm hd ∙ ap (λ (x : LogicBit). cond m Zero x) (turned X One (eqb d 0)))
 
-  pub found-at : (i : ℕ) → some i (λ i. onPair (mismatch op) (getD ps i zeros)) ≡ false → onPair (mismatch op) (getD ps i zeros) ≡ true
-      → Mismatch i ≡ found op ps
+  -- what a scan by words knows behind k words: no place there mismatches, and none of them below `first` is unsure, which is then the lowest, or the
+  -- number of places
+  pub record Scanned (first k : ℕ) : Type 0 where
+    pub apart : Clear (onPair (mismatch op)) zeros ps (k * 64)
+    pub sure : (i : ℕ) → i < k * 64 → i < first → onPair (unsure op) (getD ps i zeros) ≡ false
+    pub stands : (first ≡ length ps → ⊥) → (first < k * 64) × (onPair (unsure op) (getD ps first zeros) ≡ true)
+
+  pub found-at : (i : ℕ) → Clear (onPair (mismatch op)) zeros ps i → onPair (mismatch op) (getD ps i zeros) ≡ true → Mismatch i ≡ found op ps
   found-at i h t =
       let r = lowest-at (onPair (mismatch op)) zeros (zero-apart op) ps i h t in
-      sym (ap₂ (λ (m : Bool) (n : ℕ). cond m (Mismatch n) (cond (anyOf (onPair (unsure op)) ps) Unsure Same)) (r .0) (r .1))
+      sym (ap₂ (λ (m : Bool) (n : ℕ). cond m (Mismatch n) (cond (anyOf (onPair (unsure op)) ps) (Unsure (lowest (onPair (unsure op)) ps)) Same)) (r .0) (r .1))
 
-  pub found-none : (d k : ℕ) → Compared d k → length ps ≤ k * 64 → cond (eqb d 0) Same Unsure ≡ found op ps
-  found-none d k s l =
-      sym (ap₂ (λ (m z : Bool). cond m (Mismatch (lowest (onPair (mismatch op)) ps)) (cond z Unsure Same))
-      (none-left (onPair (mismatch op)) (onPair (unsure op)) zeros zeros ps (zero-apart op) d k s l)
-      (open-told (onPair (mismatch op)) (onPair (unsure op)) zeros zeros ps (zero-apart op) d k s (zero-unsure op) l)
-      ∙ turned Unsure Same (eqb d 0))
+  module _ (first k : ℕ) (s : Scanned first k) (l : length ps ≤ k * 64) where
+    none-apart : anyOf (onPair (mismatch op)) ps ≡ false
+    none-apart = none-clear (onPair (mismatch op)) zeros ps (λ i h. s .apart i (omega arith))
+
+    -- all words are scanned, and a place is unsure
+    pub found-open : (first ≡ length ps → ⊥) → Unsure first ≡ found op ps
+    found-open z =
+        let u = s .stands z in
+        let r = lowest-at (onPair (unsure op)) zeros (zero-unsure op) ps first (λ i h. s .sure i (omega (arith, u .0)) h) (u .1) in
+        sym (ap₂ (λ (m d : Bool). cond m (Mismatch (lowest (onPair (mismatch op)) ps)) (cond d (Unsure (lowest (onPair (unsure op)) ps)) Same)) none-apart (r .0)
+        ∙ ap (λ (n : ℕ). Unsure n) (r .1))
+
+    -- none is
+    pub found-same : first ≡ length ps → Same ≡ found op ps
+    found-same e =
+        sym (ap₂ (λ (m d : Bool). cond m (Mismatch (lowest (onPair (mismatch op)) ps)) (cond d (Unsure (lowest (onPair (unsure op)) ps)) Same)) none-apart
+        (none-clear (onPair (unsure op)) zeros ps (λ i h. s .sure i (omega arith) (omega arith))))
 
 -- ---- equality as a reduction
 

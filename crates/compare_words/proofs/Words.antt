@@ -8,19 +8,23 @@
 --     same-start     words that are known and the same hold no mismatch and leave nothing open
 --     one-word       the answer of operands that have one word each
 use mathlib.Core.Path.{_≡_, refl, sym, ap, ap₂, _∙_}
-use mathlib.Core.Logic.{⊎-elim}
-use mathlib.Core.Bool.{Bool, true, false, not, _||_, cond, or-assoc}
+use mathlib.Core.Logic.{_⊎_, inl, inr, ⊎-elim}
+use mathlib.Core.Bool.{Bool, true, false, not, _&&_, _||_, cond}
 use mathlib.Core.List.{List}
 use Prim.Native.Nat.{ℕ, zero, suc, _+_, _-_, _*_, _/_, _%_, _^_, _≤_, _<_, min, suc-le-suc}
-use native.Mathlib.Nat.{zero-add, add-zero, zero-lt-suc, mul-assoc, mul-comm, suc-mul}
+use native.Mathlib.Nat.{lt-of-le-of-lt, zero-add, add-zero, mul-assoc, mul-comm, mul-one, suc-mul, pow-suc}
 use native.Mathlib.Numerals.{add-one}
 use native.Mathlib.Omega.{arith}
+use borrow.Author.Tests.{eqb-true, eqb-false, not-true}
 use lib.Dec.{T, eqb, lit<}
-use lib.Pow.{pow-pos, pow-add, pow-mono}
+use lib.Arith.{lt-one}
+use lib.Count.{trailingZeros, under}
+use lib.Pow.{pow-pos, pow-add, pow-mono, shr-lt}
 use lib.Bits.{bitAnd, bitOr, bitXor, and-mask, and-le-l, and-le-r, or-zero-r, or-add-and, xor-add-and}
 use lib.ListN.{getD}
 use Rattle.bit.specs.declared.LogicBit.{LogicBit}
 use Rattle.bit.specs.declared.LogicBit.the-variants.{Zero, One}
+use Rattle.bit.proofs.Tests.{and-true}
 use Rattle.words.specs.declared.Word.{Word}
 use Rattle.words.specs.Vector.{bitAt, tabulate, pack}
 use Rattle.words.specs.Planes.{stored, bitOf, wordAt, lent, wordBy}
@@ -32,14 +36,13 @@ use Rattle.reduce_words.specs.Fold.{anyOf}
 use Rattle.reduce_words.proofs.Scanned.{gather, some}
 use Rattle.reduce_words.proofs.Gather.{gather-cong, gather-add}
 use Rattle.reduce_words.proofs.Places.{any-some, nonzero, inside}
-use Rattle.reduce_words.proofs.Scan.{start, more}
 use Rattle.extension.specs.declared.Extent.{Extent}
 use Rattle.extension.specs.Extension.{extentAt}
 use Rattle.compare_words.specs.declared.Comparison.{Comparison}
 use Rattle.compare_words.specs.declared.Found.the-variants.{Mismatch}
 use Rattle.compare_words.specs.declared.unchecked.Marks.{Marks}
 use Rattle.compare_words.specs.Compared.{mismatch, unsure, onPair, decided, found, placesOver, wordPlaces, marked, marksOf, cutMarks, unlike}
-use Rattle.compare_words.proofs.Places.{zeros, zero-apart, zero-unsure, one-apart, one-unsure, Compared, found-at, answered, by-tests}
+use Rattle.compare_words.proofs.Places.{zeros, zero-apart, zero-unsure, one-apart, one-unsure, Clear, Scanned, found-at, answered, by-tests}
 
 abbrev pub marksBy : ℕ → ℕ → Marks
 marksBy m d = record { apart = m; doubt = d }
@@ -139,12 +142,6 @@ unmarked t z o v =
 nothing : (op : Comparison) (v : ℕ) → marksOf op (wordBy v 0) (wordBy v 0) ≡ marksBy 0 0
 nothing op v = ap₂ marksBy (unmarked (mismatch op) (zero-apart op) (one-apart op) v) (unmarked (unsure op) (zero-unsure op) (one-unsure op) v)
 
--- no place below n passes
-none : (n : ℕ) (f : ℕ → Bool) → ((i : ℕ) → i < n → f i ≡ false) → some n f ≡ false
-unfolding gather
-none zero f h = refl
-none (suc n) f h = ap₂ _||_ (h 0 (zero-lt-suc n)) (none n (λ i. f (suc i)) (λ i l. h (suc i) (suc-le-suc l)))
-
 -- ---- the bits of a word, taken lowest first
 
 -- a bit that is 0 is passed
@@ -157,10 +154,35 @@ pub few : (b j n : ℕ) → (b ≡ 0 → ⊥) → b * 2 ^ j < 2 ^ n → j < n
 few zero j n z l = absurd (z refl)
 few (suc b) j n z l = ⊎-elim (λ h. h) (λ h. absurd (omega (arith, l, suc-mul b (2 ^ j), pow-mono h))) (lt-or-ge j n)
 
--- one word more of a scan, by word k of both operands and its marks
+either : (x y : Bool) → (not x && y) ≡ false → (x ≡ true) ⊎ (y ≡ false)
+either true y h = inl refl
+either false y h = inr h
+
+-- a word that is not 0 is an odd number over as many zeros as it ends in
+pub trailing : (d n : ℕ) → (n ≡ 0 → ⊥) → n < 2 ^ d → (b : ℕ) × (n ≡ b * 2 ^ trailingZeros d n) × (b % 2 ≡ 1)
+unfolding trailingZeros
+trailing zero n z l = absurd (z (lt-one l))
+trailing (suc d) n z l = go (n % 2) refl (λ e. trailing d (n / 2) (λ y. z (omega (arith, e, y))) (shr-lt d 1 (rw add-one l)))
+  where
+    t : ℕ
+    t = trailingZeros d (n / 2)
+
+    go : (r : ℕ) → n % 2 ≡ r → (n % 2 ≡ 0 → (b : ℕ) × (n / 2 ≡ b * 2 ^ t) × (b % 2 ≡ 1)) → (b : ℕ) × (n ≡ b * 2 ^ under r t) × (b % 2 ≡ 1)
+    go zero e half =
+        let h = half e in
+        let q : n ≡ n / 2 * 2 = omega arith in
+        (h .0, q ∙ ap (λ (m : ℕ). m * 2) (h .1) ∙ mul-assoc (h .0) (2 ^ t) 2 ∙ ap (λ (m : ℕ). h .0 * m) (sym (pow-suc 2 t)), h .2)
+    go (suc r) e half = (n, sym (mul-one n), omega arith)
+
+pub ends-in : (n : ℕ) → (n ≡ 0 → ⊥) → n < 2 ^ 64 → trailingZeros 64 n < 64
+ends-in n z l =
+    let b = trailing 64 n z l in
+    few (b .0) (trailingZeros 64 n) 64 (λ y. omega (arith, b .2, y)) (rw (sym (b .1)) l)
+
+-- word k of both operands and its marks
 module _ (op : Comparison) (f g : ℕ → LogicBit) (w k : ℕ) (x y : Word)
     (hx : (j : ℕ) → j < 64 → bitOf x j ≡ f (k * 64 + j)) (hy : (j : ℕ) → j < 64 → bitOf y j ≡ g (k * 64 + j))
-    (m : Marks) (hm : m ≡ cutMarks w k (marksOf op x y)) (d : ℕ) (s : Compared op (tabulate w (λ i. (f i, g i))) d k) where
+    (m : Marks) (hm : m ≡ cutMarks w k (marksOf op x y)) where
   abbrev pairs : List (LogicBit × LogicBit)
   pairs = tabulate w (λ i. (f i, g i))
 
@@ -172,27 +194,75 @@ module _ (op : Comparison) (f g : ℕ → LogicBit) (w k : ℕ) (x y : Word)
   unfolding cutMarks
   doubt-cut = ap (λ (m : Marks). m .doubt) hm
 
-  told : (t : LogicBit → LogicBit → Bool) → t Zero Zero ≡ false → (n : ℕ) → n ≡ below w k (marked t x y)
-      → not (eqb n 0) ≡ some 64 (λ j. onPair t (getD pairs (k * 64 + j) zeros))
-  told t fails n e = ap (λ (n : ℕ). not (eqb n 0)) e ∙ word-marked t fails f g w k x y hx hy
+  module _ (t : LogicBit → LogicBit → Bool) (fails : t Zero Zero ≡ false) (n : ℕ) (e : n ≡ below w k (marked t x y)) where
+    -- place i of word k passes where its digit is 1
+    digit : (i : ℕ) → k * 64 ≤ i → i < (k + 1) * 64 → onPair t (getD pairs i zeros) ≡ eqb (bitAt n (i - k * 64)) 1
+    digit i l h =
+        let q : i ≡ k * 64 + (i - k * 64) = omega arith in
+        ap (λ (i : ℕ). onPair t (getD pairs i zeros)) q ∙ sym (mark t fails f g w k x y hx hy (i - k * 64) (omega arith))
+        ∙ ap (λ (n : ℕ). eqb (bitAt n (i - k * 64)) 1) (sym e)
 
-  pub next : m .apart ≡ 0 → Compared op (tabulate w (λ i. (f i, g i))) (bitOr d (m .doubt)) (k + 1)
-  next z =
-      more (onPair (mismatch op)) (onPair (unsure op)) zeros zeros pairs (zero-apart op) d k s (m .apart)
-      (told (mismatch op) (zero-apart op) (m .apart) apart-cut) z (m .doubt) (told (unsure op) (zero-unsure op) (m .doubt) doubt-cut)
+    no-digit : n ≡ 0 → (i : ℕ) → k * 64 ≤ i → i < (k + 1) * 64 → onPair t (getD pairs i zeros) ≡ false
+    no-digit z i l h = digit i l h ∙ ap (λ (n : ℕ). eqb (bitAt n (i - k * 64)) 1) z ∙ ap (λ (d : ℕ). eqb d 1) (bit-of-zero (i - k * 64))
 
-  -- the bits that are left after j of them are b, whose lowest is a mismatch
-  pub left : (b j : ℕ) → m .apart ≡ b * 2 ^ j → j < 64 → b % 2 ≡ 1 → Mismatch (k * 64 + j) ≡ found op (tabulate w (λ i. (f i, g i)))
-  left b j e l o =
-      found-at op pairs (k * 64 + j)
-      (gather-add _||_ false (λ b. refl) or-assoc (k * 64) j (λ i. onPair (mismatch op) (getD pairs i zeros))
-      ∙ ap₂ _||_ (s .absent) (none j (λ i. onPair (mismatch op) (getD pairs (k * 64 + i) zeros)) (λ i h. at i (omega arith) 0 (bit-shl-low b j i h))))
-      (at j l 1 (rw add-zero at (bit-shl-high b j 0) ∙ bit-zero b ∙ o))
-    where
-      at : (i : ℕ) → i < 64 → (d : ℕ) → bitAt (b * 2 ^ j) i ≡ d → onPair (mismatch op) (getD pairs (k * 64 + i) zeros) ≡ eqb d 1
-      at i h d p =
-          sym (mark (mismatch op) (zero-apart op) f g w k x y hx hy i h)
-          ∙ ap (λ (n : ℕ). eqb (bitAt n i) 1) (sym apart-cut ∙ e) ∙ ap (λ (d : ℕ). eqb d 1) p
+    -- the digits are those of b, an odd number, over j zeros
+    module _ (b j : ℕ) (h : n ≡ b * 2 ^ j) (l : j < 64) (o : b % 2 ≡ 1) where
+      lowest-digit : onPair t (getD pairs (k * 64 + j) zeros) ≡ true
+      lowest-digit =
+          let q : k * 64 + j - k * 64 ≡ j = omega arith in
+          digit (k * 64 + j) (omega arith) (omega arith)
+          ∙ ap₂ (λ (n i : ℕ). eqb (bitAt n i) 1) h q
+          ∙ ap (λ (d : ℕ). eqb d 1) (rw add-zero at (bit-shl-high b j 0) ∙ bit-zero b ∙ o)
+
+      none-lower : (i : ℕ) → k * 64 ≤ i → i < k * 64 + j → onPair t (getD pairs i zeros) ≡ false
+      none-lower i p q =
+          digit i p (omega arith)
+          ∙ ap (λ (n : ℕ). eqb (bitAt n (i - k * 64)) 1) h ∙ ap (λ (d : ℕ). eqb d 1) (bit-shl-low b j (i - k * 64) (omega arith))
+
+  -- one word more of a scan
+  module _ (first : ℕ) (s : Scanned op (tabulate w (λ i. (f i, g i))) first k) where
+    -- no place of word k mismatches
+    module _ (z : m .apart ≡ 0) where
+      apart-next : Clear (onPair (mismatch op)) zeros pairs ((k + 1) * 64)
+      apart-next i h = ⊎-elim (λ l. s .apart i l) (λ l. no-digit (mismatch op) (zero-apart op) (m .apart) apart-cut z i l h) (lt-or-ge i (k * 64))
+
+      -- and none is unsure, or one of a word before is
+      pub next : (not (eqb (m .doubt) 0) && eqb first w) ≡ false → Scanned op (tabulate w (λ i. (f i, g i))) first (k + 1)
+      next d = record {
+        apart = apart-next;
+        sure = λ i h l. ⊎-elim (λ p. s .sure i p l)
+            (λ p. ⊎-elim (λ q. no-digit (unsure op) (zero-unsure op) (m .doubt) doubt-cut (eqb-true _ _ q) i p h)
+            (λ q. absurd (omega (arith, p, l, s .stands (λ e. eqb-false _ _ q (e ∙ length-tabulate w (λ i. (f i, g i)))) .0)))
+            (either (eqb (m .doubt) 0) (eqb first w) d))
+            (lt-or-ge i (k * 64));
+        stands = λ q. let r = s .stands q in (omega (arith, r .0), r .1);
+      }
+
+      -- and the first one is unsure that the marks of word k have
+      pub next-first : k * 64 ≤ w → (not (eqb (m .doubt) 0) && eqb first w) ≡ true
+          → Scanned op (tabulate w (λ i. (f i, g i))) (k * 64 + trailingZeros 64 (m .doubt)) (k + 1)
+      next-first lw t =
+          let h = and-true (not (eqb (m .doubt) 0)) (eqb first w) t in
+          let e = eqb-true first w (h .1) in
+          let d = eqb-false (m .doubt) 0 (not-true (eqb (m .doubt) 0) (h .0)) in
+          let small : m .doubt < 2 ^ 64 = rw doubt-cut (lt-of-le-of-lt (and-le-l (marked (unsure op) x y) _) (marked-lt (unsure op) x y)) in
+          let b = trailing 64 (m .doubt) d small in
+          let j : ℕ = trailingZeros 64 (m .doubt) in
+          let l = ends-in (m .doubt) d small in
+          record {
+            apart = apart-next;
+            sure = λ i h p. ⊎-elim (λ q. s .sure i q (omega arith))
+                (λ q. none-lower (unsure op) (zero-unsure op) (m .doubt) doubt-cut (b .0) j (b .1) l (b .2) i q p)
+                (lt-or-ge i (k * 64));
+            stands = λ q. (omega (arith, l), lowest-digit (unsure op) (zero-unsure op) (m .doubt) doubt-cut (b .0) j (b .1) l (b .2));
+          }
+
+    -- the bits that are left after j of them are b, whose lowest is a mismatch
+    pub left : (b j : ℕ) → m .apart ≡ b * 2 ^ j → j < 64 → b % 2 ≡ 1 → Mismatch (k * 64 + j) ≡ found op (tabulate w (λ i. (f i, g i)))
+    left b j e l o =
+        found-at op pairs (k * 64 + j)
+        (λ i h. ⊎-elim (λ p. s .apart i p) (λ p. none-lower (mismatch op) (zero-apart op) (m .apart) apart-cut b j e l o i p h) (lt-or-ge i (k * 64)))
+        (lowest-digit (mismatch op) (zero-apart op) (m .apart) apart-cut b j e l o)
 
 -- ---- words straight from the planes
 
@@ -203,14 +273,14 @@ wordIn v u k = wordBy (getD v k 0) (getD u k 0)
 module _ (op : Comparison) (w : ℕ) (a b : Extent) (av au bv bu : List ℕ) where
   next-whole : (k : ℕ) → k * 64 + 64 ≤ w → k * 64 + 64 ≤ a .width → k * 64 + 64 ≤ b .width
       → (m : Marks) → m ≡ marksOf op (wordBy (getD av k 0) (getD au k 0)) (wordBy (getD bv k 0) (getD bu k 0)) → m .apart ≡ 0
-      → (d : ℕ) → Compared op (placesOver w a (lent av au) b (lent bv bu)) d k
-      → Compared op (placesOver w a (lent av au) b (lent bv bu)) (bitOr d (m .doubt)) (k + 1)
+      → m .doubt ≡ 0 → Scanned op (placesOver w a (lent av au) b (lent bv bu)) w k
+      → Scanned op (placesOver w a (lent av au) b (lent bv bu)) w (k + 1)
   next-whole k hw ha hb m e z d s =
       next op (extentAt a (lent av au)) (extentAt b (lent bv bu)) w k
       (wordIn av au k) (wordIn bv bu k)
       (λ j l. sym (inside (a .width) av au (a .beyond) k j l (omega arith)))
       (λ j l. sym (inside (b .width) bv bu (b .beyond) k j l (omega arith)))
-      m (whole op w k (wordIn av au k) (wordIn bv bu k) m e hw) d s z
+      m (whole op w k (wordIn av au k) (wordIn bv bu k) m e hw) w s z (ap (λ (n : ℕ). not (eqb n 0) && eqb w w) d)
 
   pub whole-marks : (k : ℕ) → k * 64 + 64 ≤ w → k * 64 + 64 ≤ a .width → k * 64 + 64 ≤ b .width
       → (m : Marks) → m ≡ marksOf op (wordBy (getD av k 0) (getD au k 0)) (wordBy (getD bv k 0) (getD bu k 0))
@@ -224,15 +294,16 @@ module _ (op : Comparison) (w : ℕ) (a b : Extent) (av au bv bu : List ℕ) whe
       (e ∙ ap₂ marksBy (marked-cong (mismatch op) (wordIn av au k) (wordAt f k) (wordIn bv bu k) (wordAt g k) hx hy) (marked-cong (unsure op) (wordIn av au k) (wordAt f k) (wordIn bv bu k) (wordAt g k) hx hy)) hw
 
   pub same-start : (k : ℕ) → k * 64 ≤ w → k * 64 ≤ a .width → k * 64 ≤ b .width → ((i : ℕ) → i < k → unlike av au bv bu i ≡ 0)
-      → Compared op (placesOver w a (lent av au) b (lent bv bu)) 0 k
-  same-start zero hw ha hb h = start _ _ _ _ _
+      → Scanned op (placesOver w a (lent av au) b (lent bv bu)) w k
+  same-start zero hw ha hb h =
+      record { apart = λ i l. absurd (omega arith); sure = λ i l. absurd (omega arith); stands = λ z. absurd (z (sym (length-tabulate w (λ i. (extentAt a (lent av au) i, extentAt b (lent bv bu) i))))) }
   same-start (suc k) hw ha hb h =
       let q = same-words (getD av k 0) (getD au k 0) (getD bv k 0) (getD bu k 0) (h k (omega arith)) in
       let e : marksOf op (wordIn av au k) (wordIn bv bu k) ≡ marksBy 0 0 =
       (λ i. marksOf op (wordBy (q .0 i) (q .1 .0 i)) (wordBy (getD bv k 0) (q .1 .1 i))) ∙ nothing op (getD bv k 0) in
-      rw (sym (add-one k)) (rw (or-zero-r 0) at
-      (next-whole k (omega arith) (omega arith) (omega arith) (marksBy 0 0) (sym e) refl 0
-      (same-start k (omega arith) (omega arith) (omega arith) (λ i l. h i (omega arith)))))
+      rw (sym (add-one k))
+      (next-whole k (omega arith) (omega arith) (omega arith) (marksBy 0 0) (sym e) refl refl
+      (same-start k (omega arith) (omega arith) (omega arith) (λ i l. h i (omega arith))))
 
 module _ (w : ℕ) (l : w ≤ 64) (a b : Word) where
   some-place : (t : LogicBit → LogicBit → Bool) → t Zero Zero ≡ false → anyOf (onPair t) (wordPlaces w a b) ≡ not (eqb (below w 0 (marked t a b)) 0)

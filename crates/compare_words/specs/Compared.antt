@@ -70,16 +70,16 @@ module _ {A : Type 0} where
   lowest p [] = 0
   lowest p (b ∷ bs) = cond (p b) 0 (suc (lowest p bs))
 
--- the lowest place that mismatches; where none does, whether some place is unsure
+-- the lowest place that mismatches; where none does, the lowest that is unsure
 abbrev pub found : Comparison → List (LogicBit × LogicBit) → Found
 found op ps =
     cond (anyOf (onPair (mismatch op)) ps) (Mismatch (lowest (onPair (mismatch op)) ps))
-    (cond (anyOf (onPair (unsure op)) ps) Unsure Same)
+    (cond (anyOf (onPair (unsure op)) ps) (Unsure (lowest (onPair (unsure op)) ps)) Same)
 
 -- the answer bit: 0 on a mismatch, x where the answer is open, else 1
 abbrev pub foundBit : Found → LogicBit
 foundBit (Mismatch i) = Zero
-foundBit Unsure = X
+foundBit (Unsure i) = X
 foundBit Same = One
 
 -- the two bits at each place below w of two operands that are read by their extents

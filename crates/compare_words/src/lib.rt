@@ -14,10 +14,10 @@ pub enum Comparison {
     WildcardEqual,
 }
 
-// What a scan of two operands finds: the lowest place that mismatches; where none does, whether some place leaves the answer open.
+// What a scan of two operands finds: the lowest place that mismatches; where none does, the lowest that leaves the answer open.
 pub enum Found {
     Mismatch(u32),
-    Unsure,
+    Unsure(u32),
     Same,
 }
 
@@ -27,7 +27,7 @@ pub fn found_bit(found: Found) -> LogicBit
 {
     match found {
         Found::Mismatch(_) => LogicBit::Zero,
-        Found::Unsure => LogicBit::X,
+        Found::Unsure(_) => LogicBit::X,
         Found::Same => LogicBit::One,
     }
 }

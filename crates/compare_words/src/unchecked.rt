@@ -16,7 +16,7 @@ ghost use lib.ListN.{length};
 ghost use Rattle.words.specs.Planes.{wordAt, lentBy, Plane};
 ghost use Rattle.value.specs.Checks.{vector};
 ghost use Rattle.extension.specs.Extension.{extentAt, Covers};
-ghost use Rattle.compare_words.specs.Compared.{decided, found, compared, placesOver, wordPlaces, marksOf, cutMarks, unlike};
+ghost use Rattle.compare_words.specs.Compared.{decided, places, found, compared, placesOver, wordPlaces, marksOf, cutMarks, unlike};
 
 // The 64 places of a word of each operand: a one where they mismatch, and a one where an unknown bit leaves the answer in doubt.
 struct Marks {
@@ -145,7 +145,8 @@ fn marks_at(
 }
 
 // Scans two operands whose fills are settled, each read by its extent, at the width. The words are scanned from the first that was not
-// passed over, the bits of a word's mismatches from the lowest, and the scan is left at the first mismatch.
+// passed over, the bits of a word's mismatches from the lowest, and the scan is left at the first mismatch. `first` is the lowest place
+// so far that leaves the answer first, and the width while there is none.
 pub fn scan_extents(
     op: Comparison,
     a: Extent,
@@ -163,15 +164,15 @@ pub fn scan_extents(
 {
     let n = least(a.width as usize, b.width as usize) / 64;
     let count = words::word_count(width);
-    let mut doubt = 0;
+    let mut first = width;
     let mut j = 0;
     let mut k = pass_same(av, au, bv, bu, n);
     'words: loop {
         if count <= k {
-            return if doubt == 0 {
+            return if first == width {
                 Found::Same
             } else {
-                Found::Unsure
+                Found::Unsure(first)
             };
         }
         let m = marks_at(op, a, av, au, b, bv, bu, width, n, k);
@@ -184,14 +185,36 @@ pub fn scan_extents(
             bits = bits / 2;
             j += 1;
         }
-        doubt = doubt | m.doubt;
+        if (m.doubt != 0) & (first == width) {
+            first = (k * 64) as u32 + u64::trailing_zeros(m.doubt);
+        }
         k += 1;
     }
     Found::Mismatch((k * 64 + j) as u32)
 }
 
-// The comparison of two accepted vectors: their fills are settled, by the extent at which each is read, and what the scan finds gives the
-// bit.
+// Scans two accepted vectors: their fills are settled, by the extent at which each is read.
+pub fn scan(
+    op: Comparison,
+    a: Header,
+    av: &[u64],
+    au: &[u64],
+    b: Header,
+    bv: &[u64],
+    bu: &[u64],
+) -> Found
+    requires { ⌜ Plane (a .width) (now av) × Plane (a .width) (now au) ⌝ }
+    requires { ⌜ Plane (b .width) (now bv) × Plane (b .width) (now bu) ⌝ }
+    ensures { λ r. ⌜ r
+        ≡ found op (places (vector a (lentBy (av .entry) (au .entry))) (vector b (lentBy (bv .entry) (bu .entry)))) ⌝ }
+{
+    let x = extension::unchecked::extent(a, av, au, b);
+    let y = extension::unchecked::extent(b, bv, bu, a);
+    let width = extension::larger(a.width, b.width);
+    scan_extents(op, x, av, au, y, bv, bu, width)
+}
+
+// The comparison of two accepted vectors: what the scan finds gives the bit.
 pub fn compare(
     op: Comparison,
     a: Header,
@@ -206,8 +229,5 @@ pub fn compare(
     ensures { λ r. ⌜ r
         ≡ compared op (vector a (lentBy (av .entry) (au .entry))) (vector b (lentBy (bv .entry) (bu .entry))) ⌝ }
 {
-    let x = extension::unchecked::extent(a, av, au, b);
-    let y = extension::unchecked::extent(b, bv, bu, a);
-    let width = extension::larger(a.width, b.width);
-    crate::found_bit(scan_extents(op, x, av, au, y, bv, bu, width))
+    crate::found_bit(scan(op, a, av, au, b, bv, bu))
 }
