@@ -13,10 +13,14 @@ use Rattle.value.specs.declared.Operand.{Operand}
 use Rattle.value.specs.declared.Operand.the-variants as operand
 use Rattle.reduce_words.specs.declared.Truth.{Truth}
 use Rattle.reduce_words.specs.Fold.{truthBit}
+use Rattle.decide.specs.declared.Rule.{Rule}
+use Rattle.decide.specs.declared.Rule.the-variants.{KnownMismatch, Unknown, AllEqual, Numeric}
+use Rattle.decide.specs.declared.Decision.{Decision}
 use Rattle.abi.specs.declared.BitResult.{BitResult}
 use Rattle.abi.specs.declared.WordResult.{WordResult}
 use Rattle.abi.specs.declared.HeaderResult.{HeaderResult}
 use Rattle.abi.specs.declared.LengthResult.{LengthResult}
+use Rattle.abi.specs.declared.DecisionResult.{DecisionResult}
 
 abbrev pub codedDone : Answer Unit → ℕ
 codedDone (given u) = 0
@@ -43,6 +47,24 @@ codedChange (refused n) = record { refusal = n; bit = 0 }
 abbrev pub codedTruth : Answer Truth → BitResult
 codedTruth (given t) = record { refusal = 0; bit = code (truthBit t) }
 codedTruth (refused n) = record { refusal = n; bit = 0 }
+
+-- the rules of document 02, point 3, in its order
+abbrev pub ruleNumber : Rule → ℕ
+ruleNumber (KnownMismatch i) = 1
+ruleNumber (Unknown i) = 2
+ruleNumber AllEqual = 3
+ruleNumber Numeric = 4
+
+-- the place of a rule, 0 where it has none
+abbrev pub rulePlace : Rule → ℕ
+rulePlace (KnownMismatch i) = i
+rulePlace (Unknown i) = i
+rulePlace AllEqual = 0
+rulePlace Numeric = 0
+
+abbrev pub codedDecision : Answer Decision → DecisionResult
+codedDecision (given d) = record { refusal = 0; bit = code (d .bit); rule = ruleNumber (d .rule); place = rulePlace (d .rule) }
+codedDecision (refused n) = record { refusal = n; bit = 0; rule = 0; place = 0 }
 
 abbrev pub codedLength : Answer ℕ → LengthResult
 codedLength (given n) = record { refusal = 0; length = n }

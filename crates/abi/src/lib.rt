@@ -1,5 +1,7 @@
 // The answers of the entries as numbers, for C and Rust. A refusal is its number, and 0 is done; a bit is its code, a word of both planes
 // two numbers; the other fields of a refused call are 0.
+use decide::DecisionAnswer;
+use decide::Rule;
 use insert::ChangeAnswer;
 use literal_read::HeaderAnswer;
 use literal_write::LengthAnswer;
@@ -16,9 +18,11 @@ ghost use Rattle.refusal.specs.Outcome.{verdict};
 ghost use Rattle.value.specs.Answers.{bitAnswer, wordAnswer, vectorAnswer};
 ghost use Rattle.insert.specs.Insert.{changeAnswer};
 ghost use Rattle.truth.specs.Truth.{truthAnswer};
+ghost use Rattle.decide.specs.Decide.{decisionAnswer};
 ghost use Rattle.literal_read.specs.Answers.{headerAnswer};
 ghost use Rattle.literal_write.specs.Answers.{lengthAnswer, textAnswer};
 ghost use Rattle.abi.specs.Coded.{codedDone, codedBit, codedWord, codedHeader, codedChange, codedTruth, codedLength, operandOf};
+ghost use Rattle.abi.specs.Coded.{ruleNumber, rulePlace, codedDecision};
 
 #[repr(C)]
 pub struct BitResult {
@@ -45,6 +49,14 @@ pub struct HeaderResult {
 pub struct LengthResult {
     pub refusal: u8,
     pub length: usize,
+}
+
+#[repr(C)]
+pub struct DecisionResult {
+    pub refusal: u8,
+    pub bit: u8,
+    pub rule: u8,
+    pub place: u32,
 }
 
 // 0 where the call was done.
@@ -139,6 +151,54 @@ pub fn truth_result(a: TruthAnswer) -> BitResult
         TruthAnswer::Refused(r) => BitResult {
             refusal: refusal::number(r),
             bit: 0,
+        },
+    }
+}
+
+// The rules, counted from 1.
+fn rule_number(rule: Rule) -> u8
+    ensures { λ r. ⌜ r ≡ ruleNumber rule ⌝ }
+{
+    match rule {
+        Rule::KnownMismatch(_) => 1,
+        Rule::Unknown(_) => 2,
+        Rule::AllEqual => 3,
+        Rule::Numeric => 4,
+    }
+}
+
+// The place of a rule, 0 where it has none.
+fn rule_place(rule: Rule) -> u32
+    ensures { λ r. ⌜ r ≡ rulePlace rule ⌝ }
+{
+    match rule {
+        Rule::KnownMismatch(i) => i,
+        Rule::Unknown(i) => i,
+        Rule::AllEqual => 0,
+        Rule::Numeric => 0,
+    }
+}
+
+// A bit by its code, and the rule that decided by its number and place.
+pub fn decision_result(a: DecisionAnswer) -> DecisionResult
+    ensures { λ r. ⌜ r ≡ codedDecision (decisionAnswer a) ⌝ }
+{
+    match a {
+        DecisionAnswer::Decided(d) => {
+            let bit = d.bit;
+            let rule = d.rule;
+            DecisionResult {
+                refusal: 0,
+                bit: bit::to_code(bit),
+                rule: rule_number(rule),
+                place: rule_place(rule),
+            }
+        }
+        DecisionAnswer::Refused(r) => DecisionResult {
+            refusal: refusal::number(r),
+            bit: 0,
+            rule: 0,
+            place: 0,
         },
     }
 }

@@ -123,6 +123,16 @@ pub mod compare {
     pub use entries::casex_eq;
     // Equality without the places where the right bit is unknown.
     pub use entries::wildcard_eq;
+    // Which rule decided: a known mismatch or an unknown bit, each with its lowest place, all equal, or numeric.
+    pub use entries::Rule;
+    // A bit, and the rule that decided.
+    pub use entries::Decision;
+    // A decision, or the refusal.
+    pub use entries::DecisionAnswer;
+    // The answer of `is_equal`, and the rule.
+    pub use entries::decide_equal;
+    // The answer of `wildcard_eq`, and the rule.
+    pub use entries::decide_wildcard;
 }
 
 // Sized literals such as 8'hzx, read into lent planes and written into a lent text.
