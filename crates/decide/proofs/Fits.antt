@@ -19,7 +19,7 @@ use Rattle.compare_words.specs.Compared.{onPair, places, lowest}
 use Rattle.compare_words.proofs.Places.{zeros, none-clear, lowest-at}
 use Rattle.decide.specs.declared.Rule.{Rule}
 use Rattle.decide.specs.declared.Rule.the-variants.{KnownMismatch, Unknown, AllEqual, Numeric}
-use Rattle.decide.specs.Rule.{differs, holdsUnknown, ruleOf, passes, NoPlace, LowestPlace, EachEqual, Fits, OneFits}
+use Rattle.decide.specs.Rule.{differs, holdsUnknown, ruleOf, passes, NoPlace, LowestPlace, Fits, OneFits}
 
 no : {A : Type 0} → false ≡ true → A
 no h = let z : _≡_ {A = ℕ} 0 1 = cc in absurd (omega arith)
@@ -87,7 +87,7 @@ neither true x y h = same-known x y (h refl)
 
 -- ---- all places
 
-module _ (compares : LogicBit → LogicBit → Bool) (a b : Vector) where
+module _ (a b : Vector) where
   abbrev width : ℕ
   width = largerWidth (a .header) (b .header)
 
@@ -95,29 +95,30 @@ module _ (compares : LogicBit → LogicBit → Bool) (a b : Vector) where
   pair i = (operandAt a (b .header) i, operandAt b (a .header) i)
 
   module _ (t : LogicBit → LogicBit → Bool) where
-    at-place : (i : ℕ) → i < width → onPair t (getD (places a b) i zeros) ≡ passes compares a b t i
+    at-place : (i : ℕ) → i < width → onPair t (getD (places a b) i zeros) ≡ passes a b t i
     at-place i l = ap (onPair t) (getD-tabulate width pair i zeros l)
 
-    no-place : anyOf (onPair t) (places a b) ≡ false → NoPlace compares a b t
+    no-place : anyOf (onPair t) (places a b) ≡ false → NoPlace a b t
     no-place h i l = sym (at-place i l) ∙ clear (onPair t) zeros (places a b) h i (rw (length-tabulate width pair) l)
 
-    lowest-place : anyOf (onPair t) (places a b) ≡ true → LowestPlace compares a b t (lowest (onPair t) (places a b))
+    lowest-place : anyOf (onPair t) (places a b) ≡ true → LowestPlace a b t (lowest (onPair t) (places a b))
     lowest-place h =
         let s = lowest-of (onPair t) zeros (places a b) h in
         let l : lowest (onPair t) (places a b) < width = rw (length-tabulate width pair) at (s .inside) in
         record { inside = l; holds = sym (at-place _ l) ∙ s .holds; noneLower = λ j k. sym (at-place j (omega (arith, k, l))) ∙ s .none j k }
 
-    none-there : NoPlace compares a b t → anyOf (onPair t) (places a b) ≡ false
+    none-there : NoPlace a b t → anyOf (onPair t) (places a b) ≡ false
     none-there h =
         none-clear (onPair t) zeros (places a b)
         (λ i l. let k : i < width = rw (length-tabulate width pair) at l in at-place i k ∙ h i k)
 
-    lowest-there : t Zero Zero ≡ false → (i : ℕ) → LowestPlace compares a b t i
+    lowest-there : t Zero Zero ≡ false → (i : ℕ) → LowestPlace a b t i
         → (anyOf (onPair t) (places a b) ≡ true) × (lowest (onPair t) (places a b) ≡ i)
     lowest-there fails i s =
         lowest-at (onPair t) zeros fails (places a b) i
         (λ j l. at-place j (omega (arith, l, s .inside)) ∙ s .noneLower j l) (at-place i (s .inside) ∙ s .holds)
 
+module _ (compares : LogicBit → LogicBit → Bool) (a b : Vector) where
   abbrev told : Bool → ℕ → Bool → ℕ → Rule
   told m i d j = cond m (KnownMismatch i) (cond d (Unknown j) AllEqual)
 
@@ -126,11 +127,11 @@ module _ (compares : LogicBit → LogicBit → Bool) (a b : Vector) where
     where
       go : (m : Bool) → anyOf (onPair (differs compares)) (places a b) ≡ m → (d : Bool) → anyOf (onPair (holdsUnknown compares)) (places a b) ≡ d
           → Fits compares a b (told m (lowest (onPair (differs compares)) (places a b)) d (lowest (onPair (holdsUnknown compares)) (places a b)))
-      go true h d k = lowest-place (differs compares) h
-      go false h true k = (no-place (differs compares) h, lowest-place (holdsUnknown compares) k)
+      go true h d k = lowest-place a b (differs compares) h
+      go false h true k = (no-place a b (differs compares) h, lowest-place a b (holdsUnknown compares) k)
       go false h false k =
-          λ i l c. equal-place (passes compares a b compares i) (known (pair i .0)) (known (pair i .1)) (same (pair i .0) (pair i .1))
-          (no-place (differs compares) h i l) (no-place (holdsUnknown compares) k i l) c
+          λ i l c. equal-place (passes a b compares i) (known (pair a b i .0)) (known (pair a b i .1)) (same (pair a b i .0) (pair a b i .1))
+          (no-place a b (differs compares) h i l) (no-place a b (holdsUnknown compares) k i l) c
 
   differ-fails : differs compares Zero Zero ≡ false
   differ-fails = and-none (compares Zero Zero && true && true)
@@ -140,18 +141,18 @@ module _ (compares : LogicBit → LogicBit → Bool) (a b : Vector) where
 
   alone : (r : Rule) → Fits compares a b r → r ≡ ruleOf compares a b
   alone (KnownMismatch i) f =
-      let s = lowest-there (differs compares) differ-fails i f in
+      let s = lowest-there a b (differs compares) differ-fails i f in
       sym (ap₂ (λ (m : Bool) (n : ℕ). told m n (anyOf (onPair (holdsUnknown compares)) (places a b)) (lowest (onPair (holdsUnknown compares)) (places a b)))
       (s .0) (s .1))
   alone (Unknown i) f =
-      let s = lowest-there (holdsUnknown compares) unknown-fails i (f .1) in
+      let s = lowest-there a b (holdsUnknown compares) unknown-fails i (f .1) in
       sym (ap₂ (λ (m d : Bool). told m (lowest (onPair (differs compares)) (places a b)) d (lowest (onPair (holdsUnknown compares)) (places a b)))
-      (none-there (differs compares) (f .0)) (s .0) ∙ ap (λ (n : ℕ). Unknown n) (s .1))
+      (none-there a b (differs compares) (f .0)) (s .0) ∙ ap (λ (n : ℕ). Unknown n) (s .1))
   alone AllEqual f =
-      let n : (i : ℕ) → i < width → (passes compares a b (differs compares) i ≡ false) × (passes compares a b (holdsUnknown compares) i ≡ false) =
-      λ i l. neither (passes compares a b compares i) (pair i .0) (pair i .1) (f i l) in
+      let n : (i : ℕ) → i < width a b → (passes a b (differs compares) i ≡ false) × (passes a b (holdsUnknown compares) i ≡ false) =
+      λ i l. neither (passes a b compares i) (pair a b i .0) (pair a b i .1) (f i l) in
       sym (ap₂ (λ (m d : Bool). told m (lowest (onPair (differs compares)) (places a b)) d (lowest (onPair (holdsUnknown compares)) (places a b)))
-      (none-there (differs compares) (λ i l. n i l .0)) (none-there (holdsUnknown compares) (λ i l. n i l .1)))
+      (none-there a b (differs compares) (λ i l. n i l .0)) (none-there a b (holdsUnknown compares) (λ i l. n i l .1)))
   alone Numeric f = absurd f
 
 pub one-fits : OneFits

@@ -2,7 +2,6 @@
 -- place are those that the comparison reads, at the larger width.
 use mathlib.Core.Path.{_≡_}
 use mathlib.Core.Bool.{Bool, true, false, not, _&&_, cond}
-use mathlib.Core.List.{List}
 use Prim.Native.Nat.{ℕ, _<_}
 use Rattle.bit.specs.declared.LogicBit.{LogicBit}
 use Rattle.bit.specs.declared.LogicBit.the-variants.{Zero, One, X}
@@ -33,40 +32,41 @@ module _ (compares : LogicBit → LogicBit → Bool) where
   abbrev pub holdsUnknown : LogicBit → LogicBit → Bool
   holdsUnknown a b = compares a b && not (known a && known b)
 
-  -- ---- the rule that is told
+-- ---- the rule that is told
 
-  -- a known mismatch and its lowest place, else unknown and its lowest place, else all equal
-  abbrev pub ruleOf : Vector → Vector → Rule
-  ruleOf a b =
-      cond (anyOf (onPair differs) (places a b)) (KnownMismatch (lowest (onPair differs) (places a b)))
-      (cond (anyOf (onPair holdsUnknown) (places a b)) (Unknown (lowest (onPair holdsUnknown) (places a b))) AllEqual)
+-- a known mismatch and its lowest place, else unknown and its lowest place, else all equal
+abbrev pub ruleOf : (LogicBit → LogicBit → Bool) → Vector → Vector → Rule
+ruleOf compares a b =
+    cond (anyOf (onPair (differs compares)) (places a b)) (KnownMismatch (lowest (onPair (differs compares)) (places a b)))
+    (cond (anyOf (onPair (holdsUnknown compares)) (places a b)) (Unknown (lowest (onPair (holdsUnknown compares)) (places a b))) AllEqual)
 
-  -- ---- what it is for a rule to fit two vectors
+-- ---- what it is for a rule to fit two vectors
 
-  module _ (a b : Vector) where
-    -- the bits of place i pass a test
-    abbrev pub passes : (LogicBit → LogicBit → Bool) → ℕ → Bool
-    passes t i = t (operandAt a (b .header) i) (operandAt b (a .header) i)
+module _ (a b : Vector) where
+  -- the bits of place i pass a test
+  abbrev pub passes : (LogicBit → LogicBit → Bool) → ℕ → Bool
+  passes t i = t (operandAt a (b .header) i) (operandAt b (a .header) i)
 
-    -- no place passes
-    abbrev pub NoPlace : (LogicBit → LogicBit → Bool) → Type 0
-    NoPlace t = (i : ℕ) → i < largerWidth (a .header) (b .header) → passes t i ≡ false
+  -- no place passes
+  abbrev pub NoPlace : (LogicBit → LogicBit → Bool) → Type 0
+  NoPlace t = (i : ℕ) → i < largerWidth (a .header) (b .header) → passes t i ≡ false
 
-    -- place i passes, and no lower one does
-    pub record LowestPlace (t : LogicBit → LogicBit → Bool) (i : ℕ) : Type 0 where
-      pub inside : i < largerWidth (a .header) (b .header)
-      pub holds : passes t i ≡ true
-      pub noneLower : (j : ℕ) → j < i → passes t j ≡ false
+  -- place i passes, and no lower one does
+  pub record LowestPlace (t : LogicBit → LogicBit → Bool) (i : ℕ) : Type 0 where
+    pub inside : i < largerWidth (a .header) (b .header)
+    pub holds : passes t i ≡ true
+    pub noneLower : (j : ℕ) → j < i → passes t j ≡ false
 
-    -- of the places that are compared, each holds the same known bit on both sides
-    abbrev pub EachEqual : Type 0
-    EachEqual = (i : ℕ) → i < largerWidth (a .header) (b .header) → passes compares i ≡ true → passes (λ x y. known x && same x y) i ≡ true
+  -- each place that is compared holds the same known bit on both sides
+  abbrev pub EachEqual : (LogicBit → LogicBit → Bool) → Type 0
+  EachEqual compares =
+      (i : ℕ) → i < largerWidth (a .header) (b .header) → passes compares i ≡ true → passes (λ x y. known x && same x y) i ≡ true
 
-    abbrev pub Fits : Rule → Type 0
-    Fits (KnownMismatch i) = LowestPlace differs i
-    Fits (Unknown i) = NoPlace differs × LowestPlace holdsUnknown i
-    Fits AllEqual = EachEqual
-    Fits Numeric = ⊥
+abbrev pub Fits : (LogicBit → LogicBit → Bool) → Vector → Vector → Rule → Type 0
+Fits compares a b (KnownMismatch i) = LowestPlace a b (differs compares) i
+Fits compares a b (Unknown i) = NoPlace a b (differs compares) × LowestPlace a b (holdsUnknown compares) i
+Fits compares a b AllEqual = EachEqual a b compares
+Fits compares a b Numeric = ⊥
 
 -- ---- the law
 
