@@ -1,14 +1,17 @@
--- The cases of document 01, "Cases on either side", that are marked with a star, and cases of document 02, point 2, over the definitions that the
--- contracts cite. A vector is written highest bit first, each bit by its code: 0, 1, x or z.
+-- The cases of document 01, "Cases on either side", that are marked with a star, and cases of document 02, points 2 and 3, over the definitions
+-- that the contracts cite. A vector is written highest bit first, each bit by its code: 0, 1, x or z.
 use mathlib.Core.Path.{_≡_}
 use mathlib.Core.Bool.{Bool, true, false, cond}
 use mathlib.Core.List.{List, [], _∷_, map, reverse}
 use Prim.Native.Nat.{ℕ}
 use lib.ListN.{length}
+use lib.Ieee.{Float, nan}
 use Rattle.bit.specs.declared.LogicBit.{LogicBit}
-use Rattle.bit.specs.declared.LogicBit.the-variants.{Zero, One}
+use Rattle.bit.specs.declared.LogicBit.the-variants.{Zero, One, X}
 use Rattle.bit.specs.Rules.{ofCode}
+use Rattle.words.specs.Planes.{Planes}
 use Rattle.value.specs.declared.Header.{Header}
+use Rattle.value.specs.declared.Operand.the-variants.{Real}
 use Rattle.value.specs.Checks.{Vector}
 use Rattle.lanes.specs.declared.Bitwise.{Bitwise}
 use Rattle.lanes.specs.declared.Bitwise.the-variants.{And, Or, Xor, Merge}
@@ -16,6 +19,11 @@ use Rattle.bitwise_words.specs.Joined.{joined, inverted, resultSigned}
 use Rattle.reduce_words.specs.Fold.{reduceAnd, reduceOr, reduceXor}
 use Rattle.compare_words.specs.declared.Comparison.the-variants.{Equal, CaseEqual, CasezEqual, WildcardEqual}
 use Rattle.compare_words.specs.Compared.{compared}
+use Rattle.compare.specs.Compare.{equalOperands}
+use Rattle.decide.specs.declared.Rule.the-variants.{KnownMismatch, Unknown, AllEqual, Numeric}
+use Rattle.decide.specs.declared.Decision.{Decision}
+use Rattle.decide.specs.Rule.{everyPlace, rightKnown, ruleOf}
+use Rattle.decide.specs.Decide.{decision, equalRule}
 
 abbrev x : ℕ
 x = 2
@@ -51,19 +59,20 @@ abbrev sign : Bitwise → Header → Header → List LogicBit
 sign op a b = cond (resultSigned op a b) One Zero ∷ []
 
 -- what a definition gives, and what the document says
-pub record Case : Type 0 where
-  pub given : List LogicBit
-  pub said : List LogicBit
+pub record Case (A : Type 0) : Type 0 where
+  pub given : A
+  pub said : A
 
 infixl 90 _is_
-abbrev _is_ : List LogicBit → List ℕ → Case
+abbrev _is_ : List LogicBit → List ℕ → Case (List LogicBit)
 given is said = record { given = given; said = bits said }
 
--- in every case the definition gives what the document says
-abbrev pub Hold : List Case → Type 0
-Hold cs = map (λ (c : Case). c .given) cs ≡ map (λ (c : Case). c .said) cs
+module _ {A : Type 0} where
+  -- in every case the definition gives what the document says
+  abbrev pub Hold : List (Case A) → Type 0
+  Hold cs = map (λ (c : Case A). c .given) cs ≡ map (λ (c : Case A). c .said) cs
 
-abbrev pub starred : List Case
+abbrev pub starred : List (Case (List LogicBit))
 starred =
     joined And (u (0 ∷ 1 ∷ x ∷ z ∷ [])) (u (1 ∷ 1 ∷ 1 ∷ 1 ∷ [])) is (0 ∷ 1 ∷ x ∷ x ∷ [])
     ∷ joined Or (u (0 ∷ 1 ∷ x ∷ z ∷ [])) (u (1 ∷ 1 ∷ 1 ∷ 0 ∷ [])) is (1 ∷ 1 ∷ 1 ∷ x ∷ [])
@@ -83,7 +92,7 @@ starred =
     ∷ []
 
 -- operands of two widths, extended by the top bit if both are signed, else by 0; fills, stretched; the sign of a merge
-abbrev pub pointTwo : List Case
+abbrev pub pointTwo : List (Case (List LogicBit))
 pointTwo =
     joined Or (s (1 ∷ [])) (s (0 ∷ 0 ∷ [])) is (1 ∷ 1 ∷ [])
     ∷ joined Or (s (1 ∷ [])) (u (0 ∷ 0 ∷ [])) is (0 ∷ 1 ∷ [])
@@ -108,4 +117,57 @@ pointTwo =
     ∷ sign Merge (marked 4 true false) (marked 4 true true) is (0 ∷ [])
     ∷ sign Merge (marked 4 true true) (marked 4 true true) is (0 ∷ [])
     ∷ sign Or (marked 4 true false) (marked 4 true false) is (0 ∷ [])
+    ∷ []
+
+-- ---- which rule decided
+
+infixl 90 _equal_ _wildcard_
+abbrev _equal_ : Vector → Vector → Decision
+a equal b = decision (compared Equal a b) (ruleOf everyPlace a b)
+
+abbrev _wildcard_ : Vector → Vector → Decision
+a wildcard b = decision (compared WildcardEqual a b) (ruleOf rightKnown a b)
+
+-- two reals, beside which no planes are lent
+abbrev reals : Float → Float → Decision
+reals a b =
+    let none : Planes = record { value = []; unknown = [] } in
+    decision (equalOperands (Real a) none (Real b) none) (equalRule (Real a) none (Real b) none)
+
+abbrev mismatch : ℕ → Decision
+mismatch i = decision Zero (KnownMismatch i)
+
+abbrev unknown : ℕ → Decision
+unknown i = decision X (Unknown i)
+
+abbrev allEqual : Decision
+allEqual = decision One AllEqual
+
+infixl 85 _tells_
+abbrev _tells_ : Decision → Decision → Case Decision
+given tells said = record { given = given; said = said }
+
+abbrev pub pointThree : List (Case Decision)
+pointThree =
+    u (1 ∷ x ∷ []) equal u (0 ∷ x ∷ []) tells mismatch 1
+    ∷ u (1 ∷ x ∷ x ∷ 0 ∷ []) equal u (0 ∷ 1 ∷ 1 ∷ 0 ∷ []) tells mismatch 3
+    ∷ u (1 ∷ 0 ∷ 1 ∷ []) equal u (0 ∷ 1 ∷ 0 ∷ []) tells mismatch 0
+    ∷ u (1 ∷ x ∷ x ∷ 0 ∷ []) equal u (1 ∷ 1 ∷ 1 ∷ 0 ∷ []) tells unknown 1
+    ∷ u (z ∷ 1 ∷ 1 ∷ 0 ∷ []) equal u (1 ∷ x ∷ 1 ∷ 0 ∷ []) tells unknown 2
+    ∷ u (1 ∷ 0 ∷ []) equal u (x ∷ 0 ∷ []) tells unknown 1
+    ∷ s (x ∷ 0 ∷ []) equal s (0 ∷ 1 ∷ 0 ∷ 0 ∷ []) tells unknown 1
+    ∷ s (1 ∷ 0 ∷ []) equal s (0 ∷ 1 ∷ 1 ∷ 0 ∷ []) tells mismatch 3
+    ∷ u (1 ∷ 0 ∷ []) equal s (0 ∷ 1 ∷ 1 ∷ 0 ∷ []) tells mismatch 2
+    ∷ f (x ∷ 0 ∷ []) equal u (0 ∷ 0 ∷ []) tells allEqual
+    ∷ u [] equal u (1 ∷ 0 ∷ 0 ∷ []) tells mismatch 2
+    ∷ u [] equal u [] tells allEqual
+    ∷ u (1 ∷ x ∷ []) wildcard u (1 ∷ 1 ∷ []) tells unknown 0
+    ∷ u (0 ∷ x ∷ []) wildcard u (1 ∷ 1 ∷ []) tells mismatch 1
+    ∷ u (1 ∷ x ∷ 0 ∷ []) wildcard u (z ∷ z ∷ 1 ∷ []) tells mismatch 0
+    ∷ u (x ∷ z ∷ 1 ∷ 0 ∷ []) wildcard u (1 ∷ x ∷ 1 ∷ x ∷ []) tells unknown 3
+    ∷ u (x ∷ x ∷ []) wildcard u (z ∷ x ∷ []) tells allEqual
+    ∷ u (1 ∷ 1 ∷ []) wildcard u (1 ∷ x ∷ []) tells allEqual
+    ∷ f (x ∷ []) wildcard u (1 ∷ 1 ∷ 1 ∷ 1 ∷ []) tells unknown 0
+    ∷ s (x ∷ []) wildcard s (1 ∷ x ∷ []) tells unknown 1
+    ∷ reals nan nan tells decision Zero Numeric
     ∷ []
