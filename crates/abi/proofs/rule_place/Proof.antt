@@ -1,0 +1,29 @@
+-- By the rule.
+use borrow.Author.Needs.{needs}
+use Rattle.abi.proofs.rule_place.Statement.{statement}
+use Rattle.abi.proofs.rule_place.Tie as tie
+
+returns : tie.Need-returns
+returns c = rw (c .before .rule .given .1)
+
+returns-2 : tie.Need-returns-2
+returns-2 c = rw (c .before .rule2 .given .1)
+
+returns-3 : tie.Need-returns-3
+returns-3 c = rw (c .enum-told .given .1)
+
+returns-4 : tie.Need-returns-4
+returns-4 c = rw (c .enum-told2 .given .1)
+
+pub rule-place-spec : {M : Type 1} → statement M
+rule-place-spec =
+    tie.close
+    (tie.spec
+    (λ c. search needs)
+    (λ c. search needs)
+    (λ c. search needs)
+    (λ c. search needs)
+    returns
+    returns-2
+    returns-3
+    returns-4)
