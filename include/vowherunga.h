@@ -70,6 +70,14 @@ enum {
     VOWHERUNGA_OP_INSERT = 16          // ins
 };
 
+// The number of the rule that decided a comparison.
+enum {
+    VOWHERUNGA_RULE_KNOWN_MISMATCH = 1, // the place is the lowest compared one where both bits are known and differ; the bit is 0
+    VOWHERUNGA_RULE_UNKNOWN = 2,        // there is no such place, and it is the lowest compared one where a bit is unknown; the bit is x
+    VOWHERUNGA_RULE_ALL_EQUAL = 3,      // every compared place holds two equal known bits, or none is compared; the bit is 1
+    VOWHERUNGA_RULE_NUMERIC = 4         // an operand is a real
+};
+
 // What vowherunga_add_step answers in place of a refusal to a code that is no op's; nothing changes then.
 enum { VOWHERUNGA_NO_SUCH_OP = 255 };
 
@@ -95,6 +103,15 @@ typedef struct {
     uint8_t refusal;
     uint8_t bit;
 } vowherunga_bit_result;
+
+// The code of a comparison's bit, the number of the rule that decided it, and the place that the rule tells, counted from bit 0; 0 if it tells
+// none.
+typedef struct {
+    uint8_t refusal;
+    uint8_t bit;
+    uint8_t rule;
+    uint32_t place;
+} vowherunga_decision_result;
 
 // A word of each plane.
 typedef struct {
@@ -201,8 +218,8 @@ vowherunga_bit_result vowherunga_splice_bits64(vowherunga_header a, uint64_t *va
 vowherunga_header_result vowherunga_from_real_wrapped(double f, uint32_t width, uint64_t *value, size_t value_len, uint64_t *unknown,
                                                       size_t unknown_len);
 
-// ---- Operators whose answer is a bit: refused by 1 to 4 for the left operand, then for the right one. An operand that is_real is the real
-// beside it, with planes of no words; its header is of no account, nor is the real of another.
+// ---- Operators whose answer is a bit, or a bit and the rule behind it: refused by 1 to 4 for the left operand, then for the right one. An
+// operand that is_real is the real beside it, with planes of no words; its header is of no account, nor is the real of another.
 
 // 0 on any known 0, else x on any unknown bit, else 1.
 vowherunga_bit_result vowherunga_reduce_and(vowherunga_header a, const uint64_t *value, size_t value_len, const uint64_t *unknown,
@@ -256,6 +273,21 @@ vowherunga_bit_result vowherunga_casex_eq(vowherunga_header a, const uint64_t *a
 // else 1.
 vowherunga_bit_result vowherunga_wildcard_eq(vowherunga_header a, const uint64_t *av, size_t av_len, const uint64_t *au, size_t au_len,
                                              vowherunga_header b, const uint64_t *bv, size_t bv_len, const uint64_t *bu, size_t bu_len);
+
+// The bit of vowherunga_is_equal and the rule that decided it; of two vectors all places are compared, as they are read for the bit.
+vowherunga_decision_result vowherunga_decide_equal(bool a_is_real, vowherunga_header a, double a_real, const uint64_t *av, size_t av_len,
+                                                   const uint64_t *au, size_t au_len, bool b_is_real, vowherunga_header b, double b_real,
+                                                   const uint64_t *bv, size_t bv_len, const uint64_t *bu, size_t bu_len);
+
+// vowherunga_decide_equal of two vectors.
+vowherunga_decision_result vowherunga_decide_equal_vectors(vowherunga_header a, const uint64_t *av, size_t av_len, const uint64_t *au,
+                                                           size_t au_len, vowherunga_header b, const uint64_t *bv, size_t bv_len,
+                                                           const uint64_t *bu, size_t bu_len);
+
+// The bit of vowherunga_wildcard_eq and the rule that decided it; the places are compared where the right side is known.
+vowherunga_decision_result vowherunga_decide_wildcard(vowherunga_header a, const uint64_t *av, size_t av_len, const uint64_t *au,
+                                                      size_t au_len, vowherunga_header b, const uint64_t *bv, size_t bv_len,
+                                                      const uint64_t *bu, size_t bu_len);
 
 // ---- Word forms: the operators on vectors of at most 64 bits by value, without a check. They see neither widths nor marks: two operands are
 // extended by 0, and no fill is stretched. So they stand for the operators where neither operand is a fill and the two are not both signed

@@ -14,7 +14,17 @@ fn place(variable: &str, default: &str) -> PathBuf {
 }
 
 /// The crates whose exports the binding calls.
-const LIBRARIES: [&str; 6] = ["ffi", "ffi_answers", "ffi_words", "ffi_literal", "ffi_store", "ffi_run"];
+const LIBRARIES: [&str; 9] = [
+    "ffi",
+    "ffi_answers",
+    "ffi_decide",
+    "ffi_decide_vectors",
+    "ffi_decide_wildcard",
+    "ffi_words",
+    "ffi_literal",
+    "ffi_store",
+    "ffi_run",
+];
 
 fn link_libraries() {
     let folder = place("VOWHERUNGA_STATICLIB", "../target/staticlib");

@@ -45,7 +45,7 @@
 //! ```
 //!
 //! The functions take planes by their position. [`VectorRef`] and [`PlanesMut`] hold them under their names, so that a value plane is not
-//! taken for an unknown one, and have each operator as a method.
+//! taken for an unknown one, and have each operator as a method. Equality and wildcard equality can also tell which [`Rule`] decided them.
 //!
 //! Vectors can be read from sized literals such as `8'hzx` and written as such ([`literal`]). They can be kept as the cells of a [`store`], and a
 //! whole list of steps on them can be run from its text ([`steps::run`]).
@@ -73,6 +73,7 @@ mod vector;
 pub mod reference;
 
 pub use bit::LogicBit;
+pub use compare::{Decision, Rule};
 pub use narrow::Narrow;
 pub use parse::ParseError;
 pub use planes::{Word, MAX_WIDTH};

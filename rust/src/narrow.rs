@@ -14,7 +14,7 @@ pub struct Narrow {
 pub(crate) type OfPlanes = fn(Header, &[u64], &[u64], Header, &[u64], &[u64], &mut [u64], &mut [u64]) -> Result<Header, Refusal>;
 
 /// A comparison of two vectors over planes.
-pub(crate) type ComparesPlanes = fn(Header, &[u64], &[u64], Header, &[u64], &[u64]) -> Result<LogicBit, Refusal>;
+pub(crate) type ComparesPlanes<A = LogicBit> = fn(Header, &[u64], &[u64], Header, &[u64], &[u64]) -> Result<A, Refusal>;
 
 /// The result's bits.
 #[cold]

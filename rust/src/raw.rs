@@ -13,6 +13,14 @@ pub struct BitResult {
 }
 
 #[repr(C)]
+pub struct DecisionResult {
+    pub refusal: u8,
+    pub bit: u8,
+    pub rule: u8,
+    pub place: u32,
+}
+
+#[repr(C)]
 pub struct WordResult {
     pub refusal: u8,
     pub value: u64,
@@ -79,19 +87,20 @@ extern "C" {
     ) -> HeaderResult;
 }
 
-/// Declares exports that have one list of parameters, and the type of a pointer to one of them.
+/// Declares exports that have one list of parameters, and the type of a pointer to one that gives an answer, the first one if none is named.
 macro_rules! alike {
-    ($kind:ident: $($name:ident),*: $parameters:tt -> $answer:ty) => {
-        pub type $kind = unsafe extern "C" fn $parameters -> $answer;
+    ($kind:ident: $($name:ident),* -> $answer:ty $(, $($other:ident),* -> $another:ty)?: $parameters:tt) => {
+        pub type $kind<A = $answer> = unsafe extern "C" fn $parameters -> A;
         extern "C" {
             $(pub fn $name $parameters -> $answer;)*
+            $($(pub fn $other $parameters -> $another;)*)?
         }
     };
 }
 
 // ffi/src/vectors.rt
 alike! {
-    VectorOfTwo: vowherunga_bitwise_and, vowherunga_bitwise_or, vowherunga_bitwise_xor, vowherunga_merge_unknown: (
+    VectorOfTwo: vowherunga_bitwise_and, vowherunga_bitwise_or, vowherunga_bitwise_xor, vowherunga_merge_unknown -> HeaderResult: (
         a: Header,
         av: *const u64, av_len: usize,
         au: *const u64, au_len: usize,
@@ -100,7 +109,7 @@ alike! {
         bu: *const u64, bu_len: usize,
         ov: *mut u64, ov_len: usize,
         ou: *mut u64, ou_len: usize
-    ) -> HeaderResult
+    )
 }
 
 extern "C" {
@@ -140,11 +149,11 @@ extern "C" {
 
 // ffi_answers/src/lib.rt
 alike! {
-    BitOfOne: vowherunga_reduce_and, vowherunga_reduce_or, vowherunga_reduce_xor: (
+    BitOfOne: vowherunga_reduce_and, vowherunga_reduce_or, vowherunga_reduce_xor -> BitResult: (
         a: Header,
         value: *const u64, value_len: usize,
         unknown: *const u64, unknown_len: usize
-    ) -> BitResult
+    )
 }
 
 extern "C" {
@@ -160,30 +169,31 @@ extern "C" {
 }
 
 alike! {
-    BitOfOperands: vowherunga_logic_and, vowherunga_logic_or, vowherunga_is_equal: (
+    OfOperands: vowherunga_logic_and, vowherunga_logic_or, vowherunga_is_equal -> BitResult, vowherunga_decide_equal -> DecisionResult: (
         a_is_real: bool, a: Header, a_real: f64,
         av: *const u64, av_len: usize,
         au: *const u64, au_len: usize,
         b_is_real: bool, b: Header, b_real: f64,
         bv: *const u64, bv_len: usize,
         bu: *const u64, bu_len: usize
-    ) -> BitResult
+    )
 }
 
 alike! {
-    BitOfVectors: vowherunga_equal_vectors, vowherunga_case_eq, vowherunga_casez_eq, vowherunga_casex_eq, vowherunga_wildcard_eq: (
+    OfVectors: vowherunga_equal_vectors, vowherunga_case_eq, vowherunga_casez_eq, vowherunga_casex_eq, vowherunga_wildcard_eq -> BitResult,
+    vowherunga_decide_equal_vectors, vowherunga_decide_wildcard -> DecisionResult: (
         a: Header,
         av: *const u64, av_len: usize,
         au: *const u64, au_len: usize,
         b: Header,
         bv: *const u64, bv_len: usize,
         bu: *const u64, bu_len: usize
-    ) -> BitResult
+    )
 }
 
 // ffi_words/src/lib.rt
 alike! {
-    WordOfTwo: vowherunga_and_word, vowherunga_or_word, vowherunga_xor_word, vowherunga_merge_word: (a: Word, b: Word) -> Word
+    WordOfTwo: vowherunga_and_word, vowherunga_or_word, vowherunga_xor_word, vowherunga_merge_word -> Word: (a: Word, b: Word)
 }
 
 extern "C" {
@@ -200,7 +210,7 @@ extern "C" {
 
 alike! {
     CodeOfTwo: vowherunga_is_equal_word, vowherunga_case_eq_word, vowherunga_casez_eq_word, vowherunga_casex_eq_word,
-    vowherunga_wildcard_eq_word: (a: Word, b: Word) -> u8
+    vowherunga_wildcard_eq_word -> u8: (a: Word, b: Word)
 }
 
 // ffi_literal/src/lib.rt

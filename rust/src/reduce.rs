@@ -75,16 +75,16 @@ pub fn is_nonzero(a: Operand, value: &[u64], unknown: &[u64]) -> Result<Truth, R
     Ok(Truth::of_code(r.bit))
 }
 
-/// A call that answers a bit of two operands.
+/// What a call of two operands answers.
 #[inline(always)]
-pub(crate) fn of_operands(
-    call: raw::BitOfOperands,
+pub(crate) fn of_operands<A>(
+    call: raw::OfOperands<A>,
     (a, av, au): (Operand, &[u64], &[u64]),
     (b, bv, bu): (Operand, &[u64], &[u64]),
-) -> Result<LogicBit, Refusal> {
+) -> A {
     let (a_is_real, a, a_real) = a.parts();
     let (b_is_real, b, b_real) = b.parts();
-    bit(unsafe {
+    unsafe {
         call(
             a_is_real,
             a,
@@ -101,17 +101,17 @@ pub(crate) fn of_operands(
             bu.as_ptr(),
             bu.len(),
         )
-    })
+    }
 }
 
 /// 0 if either is false, 1 if both are true, else x.
 #[inline]
 pub fn logic_and(a: Operand, av: &[u64], au: &[u64], b: Operand, bv: &[u64], bu: &[u64]) -> Result<LogicBit, Refusal> {
-    of_operands(raw::vowherunga_logic_and, (a, av, au), (b, bv, bu))
+    bit(of_operands(raw::vowherunga_logic_and, (a, av, au), (b, bv, bu)))
 }
 
 /// 1 if either is true, 0 if both are false, else x.
 #[inline]
 pub fn logic_or(a: Operand, av: &[u64], au: &[u64], b: Operand, bv: &[u64], bu: &[u64]) -> Result<LogicBit, Refusal> {
-    of_operands(raw::vowherunga_logic_or, (a, av, au), (b, bv, bu))
+    bit(of_operands(raw::vowherunga_logic_or, (a, av, au), (b, bv, bu)))
 }

@@ -1,12 +1,13 @@
 //! Vectors by reference: header and planes together, each plane under its name. A method answers and refuses as the function that it names.
 use crate::narrow::{ComparesPlanes, OfPlanes};
-use crate::{bitwise, compare, literal, planes, reduce, value, Header, LogicBit, Operand, ParseError, Refusal, Truth, Word};
+use crate::{bitwise, compare, literal, planes, reduce, value};
+use crate::{Decision, Header, LogicBit, Operand, ParseError, Refusal, Truth, Word};
 use std::fmt::{self, Write};
 
 /// A vector whose planes are lent for reading. It is shown as its bits, highest first.
 ///
 /// ```
-/// use vowherunga::{LogicBit, ParseError, PlanesMut, VectorRef};
+/// use vowherunga::{LogicBit, ParseError, PlanesMut, Rule, VectorRef};
 ///
 /// # fn main() -> Result<(), ParseError> {
 /// let [mut av, mut au, mut bv, mut bu, mut ov, mut ou] = [[0]; 6];
@@ -21,6 +22,9 @@ use std::fmt::{self, Write};
 /// // Equality, truth and the logical operators take a real beside a vector.
 /// assert_eq!(b.is_equal(15.0)?, LogicBit::One);
 /// assert_eq!(b.is_equal(a)?, LogicBit::Zero);
+///
+/// // Bit 3 is 1 here and 0 there.
+/// assert_eq!(b.decide_equal(a)?.rule, Rule::KnownMismatch(3));
 /// # Ok(())
 /// # }
 /// ```
@@ -65,8 +69,8 @@ impl From<f64> for OperandRef<'_> {
     }
 }
 
-/// A call that answers a bit of two operands over planes.
-type OfOperands = fn(Operand, &[u64], &[u64], Operand, &[u64], &[u64]) -> Result<LogicBit, Refusal>;
+/// A call of two operands over planes.
+type OfOperands<A> = fn(Operand, &[u64], &[u64], Operand, &[u64], &[u64]) -> Result<A, Refusal>;
 
 impl VectorRef<'_> {
     /// [`value::check_vector`]
@@ -153,7 +157,7 @@ impl VectorRef<'_> {
     }
 
     #[inline(always)]
-    fn beside(self, b: OperandRef, call: OfOperands) -> Result<LogicBit, Refusal> {
+    fn beside<A>(self, b: OperandRef, call: OfOperands<A>) -> Result<A, Refusal> {
         let a = Operand::Vector(self.header);
         match b {
             OperandRef::Vector(b) => call(a, self.value, self.unknown, Operand::Vector(b.header), b.value, b.unknown),
@@ -179,8 +183,14 @@ impl VectorRef<'_> {
         self.beside(b.into(), compare::is_equal)
     }
 
+    /// [`compare::decide_equal`]
+    #[inline]
+    pub fn decide_equal<'b>(self, b: impl Into<OperandRef<'b>>) -> Result<Decision, Refusal> {
+        self.beside(b.into(), compare::decide_equal)
+    }
+
     #[inline(always)]
-    fn compare(self, b: VectorRef, call: ComparesPlanes) -> Result<LogicBit, Refusal> {
+    fn compare<A>(self, b: VectorRef, call: ComparesPlanes<A>) -> Result<A, Refusal> {
         call(self.header, self.value, self.unknown, b.header, b.value, b.unknown)
     }
 
@@ -206,6 +216,12 @@ impl VectorRef<'_> {
     #[inline]
     pub fn wildcard_eq(self, b: VectorRef) -> Result<LogicBit, Refusal> {
         self.compare(b, compare::wildcard_eq)
+    }
+
+    /// [`compare::decide_wildcard`]
+    #[inline]
+    pub fn decide_wildcard(self, b: VectorRef) -> Result<Decision, Refusal> {
+        self.compare(b, compare::decide_wildcard)
     }
 }
 

@@ -126,9 +126,13 @@ fn of_two() {
                 "{a:?} {b:?}"
             );)* };
         }
-        compares!(case_eq casez_eq casex_eq wildcard_eq);
+        compares!(case_eq casez_eq casex_eq wildcard_eq decide_wildcard);
         let (x, y) = (Operand::Vector(a.header), Operand::Vector(b.header));
         assert_eq!(a.is_equal(b), compare::is_equal(x, a.value, a.unknown, y, b.value, b.unknown));
+        assert_eq!(
+            a.decide_equal(b),
+            compare::decide_equal(x, a.value, a.unknown, y, b.value, b.unknown)
+        );
         assert_eq!(a.logic_and(b), reduce::logic_and(x, a.value, a.unknown, y, b.value, b.unknown));
         assert_eq!(
             a.logic_or(OperandRef::Vector(b)),
@@ -144,6 +148,7 @@ fn of_a_real() {
         for f in [0.0, 1.0, -1.0, 10.0, 15.0, f64::NAN] {
             let y = Operand::Real(f);
             assert_eq!(v.is_equal(f), compare::is_equal(x, v.value, v.unknown, y, &[], &[]));
+            assert_eq!(v.decide_equal(f), compare::decide_equal(x, v.value, v.unknown, y, &[], &[]));
             assert_eq!(v.logic_and(f), reduce::logic_and(x, v.value, v.unknown, y, &[], &[]));
             assert_eq!(v.logic_or(f), reduce::logic_or(x, v.value, v.unknown, y, &[], &[]));
         }

@@ -64,6 +64,45 @@ static void operators(void)
     EXPECT(vowherunga_reduce_and_word(4, (vowherunga_word){15, 0}) == VOWHERUNGA_BIT_ONE);
 }
 
+// Whether a call was done and gave this.
+static bool decided(vowherunga_decision_result d, uint8_t bit, uint8_t rule, uint32_t place)
+{
+    return d.refusal == 0 && d.bit == bit && d.rule == rule && d.place == place;
+}
+
+// 01xz beside 1101, 11x1, 01x1 and itself; a vector of 66 bits whose top bit is z; a signed 1, extended beside a signed 0x; reals beside 1111.
+static void decisions(void)
+{
+    const uint64_t av[1] = {5}, au[1] = {3}, bv[1] = {13}, bu[1] = {2}, zero[2] = {0, 0}, top[2] = {0, 2}, ones[1] = {15}, one[1] = {1};
+    const vowherunga_header wide = {66, false, false};
+    vowherunga_decision_result d = vowherunga_decide_equal_vectors(four, av, 1, au, 1, four, bv, 1, zero, 1);
+    EXPECT(decided(d, VOWHERUNGA_BIT_ZERO, VOWHERUNGA_RULE_KNOWN_MISMATCH, 3));
+    d = vowherunga_decide_equal_vectors(wide, top, 2, top, 2, wide, zero, 2, zero, 2);
+    EXPECT(decided(d, VOWHERUNGA_BIT_X, VOWHERUNGA_RULE_UNKNOWN, 65));
+    d = vowherunga_decide_equal_vectors(four, bv, 1, zero, 1, four, bv, 1, zero, 1);
+    EXPECT(decided(d, VOWHERUNGA_BIT_ONE, VOWHERUNGA_RULE_ALL_EQUAL, 0));
+    d = vowherunga_decide_equal_vectors(four, av, 1, au, 1, wide, top, 1, top, 2);
+    EXPECT(d.refusal == VOWHERUNGA_REFUSAL_PLANE_LENGTH && d.bit == 0 && d.rule == 0 && d.place == 0);
+
+    d = vowherunga_decide_wildcard(four, av, 1, au, 1, four, bv, 1, bu, 1);
+    EXPECT(decided(d, VOWHERUNGA_BIT_ZERO, VOWHERUNGA_RULE_KNOWN_MISMATCH, 3));
+    d = vowherunga_decide_wildcard(four, av, 1, au, 1, four, av, 1, bu, 1);
+    EXPECT(decided(d, VOWHERUNGA_BIT_X, VOWHERUNGA_RULE_UNKNOWN, 0));
+    d = vowherunga_decide_wildcard(four, av, 1, au, 1, four, av, 1, au, 1);
+    EXPECT(decided(d, VOWHERUNGA_BIT_ONE, VOWHERUNGA_RULE_ALL_EQUAL, 0));
+    d = vowherunga_decide_wildcard(signed_one, bu, 1, zero, 1, four, av, 1, au, 1);
+    EXPECT(d.refusal == VOWHERUNGA_REFUSAL_BIT_ABOVE_WIDTH && d.bit == 0 && d.rule == 0 && d.place == 0);
+
+    d = vowherunga_decide_equal(false, signed_one, 0.0, one, 1, zero, 1, false, signed_two, 0.0, zero, 1, one, 1);
+    EXPECT(decided(d, VOWHERUNGA_BIT_ZERO, VOWHERUNGA_RULE_KNOWN_MISMATCH, 1));
+    d = vowherunga_decide_equal(false, four, 0.0, ones, 1, zero, 1, true, none, 15.0, zero, 0, zero, 0);
+    EXPECT(decided(d, VOWHERUNGA_BIT_ONE, VOWHERUNGA_RULE_NUMERIC, 0));
+    d = vowherunga_decide_equal(true, none, 14.0, zero, 0, zero, 0, false, four, 15.0, ones, 1, zero, 1);
+    EXPECT(decided(d, VOWHERUNGA_BIT_ZERO, VOWHERUNGA_RULE_NUMERIC, 0));
+    d = vowherunga_decide_equal(true, none, 14.0, zero, 0, zero, 1, false, four, 15.0, ones, 1, zero, 1);
+    EXPECT(d.refusal == VOWHERUNGA_REFUSAL_PLANE_LENGTH && d.bit == 0 && d.rule == 0 && d.place == 0);
+}
+
 static size_t starts[VOWHERUNGA_MAX_CELLS];
 static uint32_t widths[VOWHERUNGA_MAX_CELLS];
 static bool signs[VOWHERUNGA_MAX_CELLS];
@@ -146,6 +185,7 @@ int main(void)
 {
     planes();
     operators();
+    decisions();
     store();
     runs();
     literals();

@@ -1,5 +1,6 @@
 // The answers of the entries as numbers, for C and Rust. A refusal is its number, and 0 is done; a bit is its code, a word of both planes
 // two numbers; the other fields of a refused call are 0.
+use decide::Decision;
 use decide::DecisionAnswer;
 use decide::Rule;
 use insert::ChangeAnswer;
@@ -15,6 +16,7 @@ use value::VectorAnswer;
 use value::WordAnswer;
 ghost use mathlib.Core.Path.{_≡_};
 ghost use Rattle.refusal.specs.Outcome.{verdict};
+ghost use Rattle.refusal.specs.Outcome.Answer.{given};
 ghost use Rattle.value.specs.Answers.{bitAnswer, wordAnswer, vectorAnswer};
 ghost use Rattle.insert.specs.Insert.{changeAnswer};
 ghost use Rattle.truth.specs.Truth.{truthAnswer};
@@ -22,7 +24,7 @@ ghost use Rattle.decide.specs.Decide.{decisionAnswer};
 ghost use Rattle.literal_read.specs.Answers.{headerAnswer};
 ghost use Rattle.literal_write.specs.Answers.{lengthAnswer, textAnswer};
 ghost use Rattle.abi.specs.Coded.{codedDone, codedBit, codedWord, codedHeader, codedChange, codedTruth, codedLength, operandOf};
-ghost use Rattle.abi.specs.Coded.{ruleNumber, rulePlace, codedDecision};
+ghost use Rattle.abi.specs.Coded.{codedDecision};
 
 #[repr(C)]
 pub struct BitResult {
@@ -155,45 +157,47 @@ pub fn truth_result(a: TruthAnswer) -> BitResult
     }
 }
 
-// The rules, counted from 1.
-fn rule_number(rule: Rule) -> u8
-    ensures { λ r. ⌜ r ≡ ruleNumber rule ⌝ }
+// A bit by its code, and the rule that decided by its number, counted from 1, and its place, 0 where it has none.
+fn decided(d: Decision) -> DecisionResult
+    ensures { λ r. ⌜ r ≡ codedDecision (given d) ⌝ }
 {
+    let b = d.bit;
+    let bit = bit::to_code(b);
+    let rule = d.rule;
     match rule {
-        Rule::KnownMismatch(_) => 1,
-        Rule::Unknown(_) => 2,
-        Rule::AllEqual => 3,
-        Rule::Numeric => 4,
+        Rule::KnownMismatch(i) => DecisionResult {
+            refusal: 0,
+            bit: bit,
+            rule: 1,
+            place: i,
+        },
+        Rule::Unknown(i) => DecisionResult {
+            refusal: 0,
+            bit: bit,
+            rule: 2,
+            place: i,
+        },
+        Rule::AllEqual => DecisionResult {
+            refusal: 0,
+            bit: bit,
+            rule: 3,
+            place: 0,
+        },
+        Rule::Numeric => DecisionResult {
+            refusal: 0,
+            bit: bit,
+            rule: 4,
+            place: 0,
+        },
     }
 }
 
-// The place of a rule, 0 where it has none.
-fn rule_place(rule: Rule) -> u32
-    ensures { λ r. ⌜ r ≡ rulePlace rule ⌝ }
-{
-    match rule {
-        Rule::KnownMismatch(i) => i,
-        Rule::Unknown(i) => i,
-        Rule::AllEqual => 0,
-        Rule::Numeric => 0,
-    }
-}
-
-// A bit by its code, and the rule that decided by its number and place.
+// A decision.
 pub fn decision_result(a: DecisionAnswer) -> DecisionResult
     ensures { λ r. ⌜ r ≡ codedDecision (decisionAnswer a) ⌝ }
 {
     match a {
-        DecisionAnswer::Decided(d) => {
-            let bit = d.bit;
-            let rule = d.rule;
-            DecisionResult {
-                refusal: 0,
-                bit: bit::to_code(bit),
-                rule: rule_number(rule),
-                place: rule_place(rule),
-            }
-        }
+        DecisionAnswer::Decided(d) => decided(d),
         DecisionAnswer::Refused(r) => DecisionResult {
             refusal: refusal::number(r),
             bit: 0,

@@ -1,9 +1,9 @@
 -- Equality by the operands' cases.
---     in-turn                   two checks one after the other
 --     vectors                   two vectors are compared, and refused one after the other
 --     real-left, real-right     where one operand is a real, both count as reals
 use mathlib.Core.Path.{_≡_, refl}
 use lib.Ieee.{Float}
+use Rattle.bit.specs.declared.LogicBit.{LogicBit}
 use Rattle.refusal.specs.Outcome.{Answer, after}
 use Rattle.refusal.specs.Outcome.Answer.{given, refused}
 use Rattle.words.specs.Planes.{Planes}
@@ -16,7 +16,7 @@ use Rattle.compare_words.specs.Compared.{compared}
 use Rattle.real_equal.specs.Numeric.{realEquality}
 use Rattle.compare.specs.Compare.{comparison, isEqual}
 
-pub in-turn : {A : Type 0} (x y : Answer Unit) (z : Answer A) → after (after x y) z ≡ after x (after y z)
+in-turn : (x y : Answer Unit) (z : Answer LogicBit) → after (after x y) z ≡ after x (after y z)
 in-turn (given u) y z = refl
 in-turn (refused n) y z = refl
 

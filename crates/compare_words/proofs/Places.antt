@@ -5,19 +5,23 @@
 --     none-clear, lowest-at       no member passes a test; one passes, and none before it does
 --     found-at                    what is found where a place mismatches and none below it does
 --     found-open, found-same      what is found where the scan ends without a mismatch: the lowest unsure place; none
+--     stands-inside               the lowest unsure place is one of the list
 --     equal-and                   equality is the and-reduction of the places, each by whether its bits are the same
 use mathlib.Core.Path.{_≡_, refl, sym, ap, ap₂, _∙_}
+use mathlib.Core.Logic.{⊎-elim}
 use mathlib.Core.Bool.{Bool, true, false, not, _||_, cond}
 use mathlib.Core.List.{List, [], _∷_}
-use Prim.Native.Nat.{ℕ, zero, suc, _*_, _≤_, _<_, suc-le-suc}
+use Prim.Native.Nat.{ℕ, zero, suc, _+_, _*_, _≤_, _<_, suc-le-suc}
 use native.Mathlib.Nat.{zero-lt-suc}
 use native.Mathlib.Omega.{arith}
+use lib.Count.{trailingZeros}
 use lib.Dec.{eqb}
-use lib.ListN.{length, getD}
+use lib.ListN.{length, getD, List·getD-eq-default}
 use Rattle.bit.specs.declared.LogicBit.{LogicBit}
 use Rattle.bit.specs.declared.LogicBit.the-variants.{Zero, One, X, Z}
 use Rattle.bit.specs.Rules.{same, notBit, xorBit}
 use Rattle.words.specs.Vector.{tabulate}
+use Rattle.words.proofs.Digits.{lt-or-ge}
 use Rattle.value.specs.Checks.{Vector}
 use Rattle.reduce_words.specs.Fold.{anyOf, isUnknown, reduceAnd}
 use Rattle.reduce_words.proofs.Gather.{gather-cong}
@@ -96,35 +100,40 @@ module _ (op : Comparison) (ps : List (LogicBit × LogicBit)) where
       → answered m d ≡ decided op ps
   by-tests m d hm hd = sym (ap₂ (λ (x y : Bool). cond x Zero (cond y X One)) hm hd ∙ ap (λ (x : LogicBit). cond m Zero x) (turned X One (eqb d 0)))
 
-  -- what a scan by words knows behind k words: no place there mismatches, and none of them below `first` is unsure, which is then the lowest, or the
-  -- number of places
-  pub record Scanned (first k : ℕ) : Type 0 where
+  -- what a scan by words knows behind k words: no place there mismatches; if `doubt` is 0, none there is unsure, and if not, the lowest one that is has
+  -- the place of the lowest one of `first` in word `at`
+  pub record Scanned (doubt first at k : ℕ) : Type 0 where
     pub apart : Clear (onPair (mismatch op)) zeros ps (k * 64)
-    pub sure : (i : ℕ) → i < k * 64 → i < first → onPair (unsure op) (getD ps i zeros) ≡ false
-    pub stands : (first ≡ length ps → ⊥) → (first < k * 64) × (onPair (unsure op) (getD ps first zeros) ≡ true)
+    pub sure : doubt ≡ 0 → Clear (onPair (unsure op)) zeros ps (k * 64)
+    pub below : (doubt ≡ 0 → ⊥) → Clear (onPair (unsure op)) zeros ps (at * 64 + trailingZeros 64 first)
+    pub stands : (doubt ≡ 0 → ⊥) → onPair (unsure op) (getD ps (at * 64 + trailingZeros 64 first) zeros) ≡ true
 
   pub found-at : (i : ℕ) → Clear (onPair (mismatch op)) zeros ps i → onPair (mismatch op) (getD ps i zeros) ≡ true → Mismatch i ≡ found op ps
   found-at i h t =
       let r = lowest-at (onPair (mismatch op)) zeros (zero-apart op) ps i h t in
       sym (ap₂ (λ (m : Bool) (n : ℕ). cond m (Mismatch n) (cond (anyOf (onPair (unsure op)) ps) (Unsure (lowest (onPair (unsure op)) ps)) Same)) (r .0) (r .1))
 
-  module _ (first k : ℕ) (s : Scanned first k) (l : length ps ≤ k * 64) where
-    none-apart : anyOf (onPair (mismatch op)) ps ≡ false
-    none-apart = none-clear (onPair (mismatch op)) zeros ps (λ i h. s .apart i (omega arith))
+  -- an unsure place is one of the list
+  pub stands-inside : (doubt first at k : ℕ) → Scanned doubt first at k → (doubt ≡ 0 → ⊥) → at * 64 + trailingZeros 64 first < length ps
+  stands-inside doubt first at k s z =
+      ⊎-elim (λ l. l)
+      (λ l. let e : false ≡ true = sym (ap (onPair (unsure op)) (List·getD-eq-default ps zeros l) ∙ zero-unsure op) ∙ s .stands z in
+      let z : _≡_ {A = ℕ} 0 1 = cc in absurd (omega arith))
+      (lt-or-ge (at * 64 + trailingZeros 64 first) (length ps))
 
-    -- all words are scanned, and a place is unsure
-    pub found-open : (first ≡ length ps → ⊥) → Unsure first ≡ found op ps
+  module _ (doubt first at k : ℕ) (s : Scanned doubt first at k) (l : length ps ≤ k * 64) where
+    told : (d : Bool) → anyOf (onPair (unsure op)) ps ≡ d → cond d (Unsure (lowest (onPair (unsure op)) ps)) Same ≡ found op ps
+    told d e =
+        sym (ap₂ (λ (m d : Bool). cond m (Mismatch (lowest (onPair (mismatch op)) ps)) (cond d (Unsure (lowest (onPair (unsure op)) ps)) Same))
+        (none-clear (onPair (mismatch op)) zeros ps (λ i h. s .apart i (omega arith))) e)
+
+    pub found-open : (doubt ≡ 0 → ⊥) → Unsure (at * 64 + trailingZeros 64 first) ≡ found op ps
     found-open z =
-        let u = s .stands z in
-        let r = lowest-at (onPair (unsure op)) zeros (zero-unsure op) ps first (λ i h. s .sure i (omega (arith, u .0)) h) (u .1) in
-        sym (ap₂ (λ (m d : Bool). cond m (Mismatch (lowest (onPair (mismatch op)) ps)) (cond d (Unsure (lowest (onPair (unsure op)) ps)) Same)) none-apart (r .0)
-        ∙ ap (λ (n : ℕ). Unsure n) (r .1))
+        let r = lowest-at (onPair (unsure op)) zeros (zero-unsure op) ps (at * 64 + trailingZeros 64 first) (s .below z) (s .stands z) in
+        ap (λ (n : ℕ). Unsure n) (sym (r .1)) ∙ told true (r .0)
 
-    -- none is
-    pub found-same : first ≡ length ps → Same ≡ found op ps
-    found-same e =
-        sym (ap₂ (λ (m d : Bool). cond m (Mismatch (lowest (onPair (mismatch op)) ps)) (cond d (Unsure (lowest (onPair (unsure op)) ps)) Same)) none-apart
-        (none-clear (onPair (unsure op)) zeros ps (λ i h. s .sure i (omega arith) (omega arith))))
+    pub found-same : doubt ≡ 0 → Same ≡ found op ps
+    found-same z = told false (none-clear (onPair (unsure op)) zeros ps (λ i h. s .sure z i (omega arith)))
 
 -- ---- equality as a reduction
 

@@ -154,12 +154,8 @@ pub few : (b j n : ℕ) → (b ≡ 0 → ⊥) → b * 2 ^ j < 2 ^ n → j < n
 few zero j n z l = absurd (z refl)
 few (suc b) j n z l = ⊎-elim (λ h. h) (λ h. absurd (omega (arith, l, suc-mul b (2 ^ j), pow-mono h))) (lt-or-ge j n)
 
-either : (x y : Bool) → (not x && y) ≡ false → (x ≡ true) ⊎ (y ≡ false)
-either true y h = inl refl
-either false y h = inr h
-
 -- a word that is not 0 is an odd number over as many zeros as it ends in
-pub trailing : (d n : ℕ) → (n ≡ 0 → ⊥) → n < 2 ^ d → (b : ℕ) × (n ≡ b * 2 ^ trailingZeros d n) × (b % 2 ≡ 1)
+trailing : (d n : ℕ) → (n ≡ 0 → ⊥) → n < 2 ^ d → (b : ℕ) × (n ≡ b * 2 ^ trailingZeros d n) × (b % 2 ≡ 1)
 unfolding trailingZeros
 trailing zero n z l = absurd (z (lt-one l))
 trailing (suc d) n z l = go (n % 2) refl (λ e. trailing d (n / 2) (λ y. z (omega (arith, e, y))) (shr-lt d 1 (rw add-one l)))
@@ -174,7 +170,7 @@ trailing (suc d) n z l = go (n % 2) refl (λ e. trailing d (n / 2) (λ y. z (ome
         (h .0, q ∙ ap (λ (m : ℕ). m * 2) (h .1) ∙ mul-assoc (h .0) (2 ^ t) 2 ∙ ap (λ (m : ℕ). h .0 * m) (sym (pow-suc 2 t)), h .2)
     go (suc r) e half = (n, sym (mul-one n), omega arith)
 
-pub ends-in : (n : ℕ) → (n ≡ 0 → ⊥) → n < 2 ^ 64 → trailingZeros 64 n < 64
+ends-in : (n : ℕ) → (n ≡ 0 → ⊥) → n < 2 ^ 64 → trailingZeros 64 n < 64
 ends-in n z l =
     let b = trailing 64 n z l in
     few (b .0) (trailingZeros 64 n) 64 (λ y. omega (arith, b .2, y)) (rw (sym (b .1)) l)
@@ -220,41 +216,37 @@ module _ (op : Comparison) (f g : ℕ → LogicBit) (w k : ℕ) (x y : Word)
           ∙ ap (λ (n : ℕ). eqb (bitAt n (i - k * 64)) 1) h ∙ ap (λ (d : ℕ). eqb d 1) (bit-shl-low b j (i - k * 64) (omega arith))
 
   -- one word more of a scan
-  module _ (first : ℕ) (s : Scanned op (tabulate w (λ i. (f i, g i))) first k) where
+  module _ (doubt first at : ℕ) (s : Scanned op (tabulate w (λ i. (f i, g i))) doubt first at k) where
     -- no place of word k mismatches
     module _ (z : m .apart ≡ 0) where
       apart-next : Clear (onPair (mismatch op)) zeros pairs ((k + 1) * 64)
       apart-next i h = ⊎-elim (λ l. s .apart i l) (λ l. no-digit (mismatch op) (zero-apart op) (m .apart) apart-cut z i l h) (lt-or-ge i (k * 64))
 
-      -- and none is unsure, or one of a word before is
-      pub next : (not (eqb (m .doubt) 0) && eqb first w) ≡ false → Scanned op (tabulate w (λ i. (f i, g i))) first (k + 1)
+      -- a word before it has an unsure place
+      pub next : (doubt ≡ 0 → ⊥) → Scanned op (tabulate w (λ i. (f i, g i))) (bitOr doubt (m .doubt)) first at (k + 1)
       next d = record {
         apart = apart-next;
-        sure = λ i h l. ⊎-elim (λ p. s .sure i p l)
-            (λ p. ⊎-elim (λ q. no-digit (unsure op) (zero-unsure op) (m .doubt) doubt-cut (eqb-true _ _ q) i p h)
-            (λ q. absurd (omega (arith, p, l, s .stands (λ e. eqb-false _ _ q (e ∙ length-tabulate w (λ i. (f i, g i)))) .0)))
-            (either (eqb (m .doubt) 0) (eqb first w) d))
-            (lt-or-ge i (k * 64));
-        stands = λ q. let r = s .stands q in (omega (arith, r .0), r .1);
+        sure = λ e. absurd (d (or-none doubt (m .doubt) e .0));
+        below = λ _. s .below d;
+        stands = λ _. s .stands d;
       }
 
-      -- and the first one is unsure that the marks of word k have
-      pub next-first : k * 64 ≤ w → (not (eqb (m .doubt) 0) && eqb first w) ≡ true
-          → Scanned op (tabulate w (λ i. (f i, g i))) (k * 64 + trailingZeros 64 (m .doubt)) (k + 1)
-      next-first lw t =
-          let h = and-true (not (eqb (m .doubt) 0)) (eqb first w) t in
-          let e = eqb-true first w (h .1) in
-          let d = eqb-false (m .doubt) 0 (not-true (eqb (m .doubt) 0) (h .0)) in
+      -- none has
+      pub next-first : doubt ≡ 0 → Scanned op (tabulate w (λ i. (f i, g i))) (bitOr doubt (m .doubt)) (m .doubt) k (k + 1)
+      next-first e =
           let small : m .doubt < 2 ^ 64 = rw doubt-cut (lt-of-le-of-lt (and-le-l (marked (unsure op) x y) _) (marked-lt (unsure op) x y)) in
-          let b = trailing 64 (m .doubt) d small in
           let j : ℕ = trailingZeros 64 (m .doubt) in
-          let l = ends-in (m .doubt) d small in
+          let own : (bitOr doubt (m .doubt) ≡ 0 → ⊥) → m .doubt ≡ 0 → ⊥ = λ d q. d (ap₂ bitOr e q ∙ or-zero-r 0) in
           record {
             apart = apart-next;
-            sure = λ i h p. ⊎-elim (λ q. s .sure i q (omega arith))
-                (λ q. none-lower (unsure op) (zero-unsure op) (m .doubt) doubt-cut (b .0) j (b .1) l (b .2) i q p)
+            sure = λ d i h. ⊎-elim (λ q. s .sure e i q)
+                (λ q. no-digit (unsure op) (zero-unsure op) (m .doubt) doubt-cut (or-none doubt (m .doubt) d .1) i q h) (lt-or-ge i (k * 64));
+            below = λ d i h. let b = trailing 64 (m .doubt) (own d) small in
+                ⊎-elim (λ q. s .sure e i q)
+                (λ q. none-lower (unsure op) (zero-unsure op) (m .doubt) doubt-cut (b .0) j (b .1) (ends-in (m .doubt) (own d) small) (b .2) i q h)
                 (lt-or-ge i (k * 64));
-            stands = λ q. (omega (arith, l), lowest-digit (unsure op) (zero-unsure op) (m .doubt) doubt-cut (b .0) j (b .1) l (b .2));
+            stands = λ d. let b = trailing 64 (m .doubt) (own d) small in
+                lowest-digit (unsure op) (zero-unsure op) (m .doubt) doubt-cut (b .0) j (b .1) (ends-in (m .doubt) (own d) small) (b .2);
           }
 
     -- the bits that are left after j of them are b, whose lowest is a mismatch
@@ -271,16 +263,21 @@ abbrev wordIn : List ℕ → List ℕ → ℕ → Word
 wordIn v u k = wordBy (getD v k 0) (getD u k 0)
 
 module _ (op : Comparison) (w : ℕ) (a b : Extent) (av au bv bu : List ℕ) where
+  -- nothing is found in the first k words
+  none-found : (k : ℕ) → Clear (onPair (mismatch op)) zeros (placesOver w a (lent av au) b (lent bv bu)) (k * 64)
+      → Clear (onPair (unsure op)) zeros (placesOver w a (lent av au) b (lent bv bu)) (k * 64) → Scanned op (placesOver w a (lent av au) b (lent bv bu)) 0 0 0 k
+  none-found k m u = record { apart = m; sure = λ _. u; below = λ z. absurd (z refl); stands = λ z. absurd (z refl) }
+
   next-whole : (k : ℕ) → k * 64 + 64 ≤ w → k * 64 + 64 ≤ a .width → k * 64 + 64 ≤ b .width
-      → (m : Marks) → m ≡ marksOf op (wordBy (getD av k 0) (getD au k 0)) (wordBy (getD bv k 0) (getD bu k 0)) → m .apart ≡ 0
-      → m .doubt ≡ 0 → Scanned op (placesOver w a (lent av au) b (lent bv bu)) w k
-      → Scanned op (placesOver w a (lent av au) b (lent bv bu)) w (k + 1)
+      → (m : Marks) → m ≡ marksOf op (wordBy (getD av k 0) (getD au k 0)) (wordBy (getD bv k 0) (getD bu k 0)) → m .apart ≡ 0 → m .doubt ≡ 0
+      → Scanned op (placesOver w a (lent av au) b (lent bv bu)) 0 0 0 k → Scanned op (placesOver w a (lent av au) b (lent bv bu)) 0 0 0 (k + 1)
   next-whole k hw ha hb m e z d s =
-      next op (extentAt a (lent av au)) (extentAt b (lent bv bu)) w k
+      let r = next-first op (extentAt a (lent av au)) (extentAt b (lent bv bu)) w k
       (wordIn av au k) (wordIn bv bu k)
       (λ j l. sym (inside (a .width) av au (a .beyond) k j l (omega arith)))
       (λ j l. sym (inside (b .width) bv bu (b .beyond) k j l (omega arith)))
-      m (whole op w k (wordIn av au k) (wordIn bv bu k) m e hw) w s z (ap (λ (n : ℕ). not (eqb n 0) && eqb w w) d)
+      m (whole op w k (wordIn av au k) (wordIn bv bu k) m e hw) 0 0 0 s z refl in
+      none-found (k + 1) (r .apart) (r .sure (ap (bitOr 0) d ∙ or-zero-r 0))
 
   pub whole-marks : (k : ℕ) → k * 64 + 64 ≤ w → k * 64 + 64 ≤ a .width → k * 64 + 64 ≤ b .width
       → (m : Marks) → m ≡ marksOf op (wordBy (getD av k 0) (getD au k 0)) (wordBy (getD bv k 0) (getD bu k 0))
@@ -294,9 +291,8 @@ module _ (op : Comparison) (w : ℕ) (a b : Extent) (av au bv bu : List ℕ) whe
       (e ∙ ap₂ marksBy (marked-cong (mismatch op) (wordIn av au k) (wordAt f k) (wordIn bv bu k) (wordAt g k) hx hy) (marked-cong (unsure op) (wordIn av au k) (wordAt f k) (wordIn bv bu k) (wordAt g k) hx hy)) hw
 
   pub same-start : (k : ℕ) → k * 64 ≤ w → k * 64 ≤ a .width → k * 64 ≤ b .width → ((i : ℕ) → i < k → unlike av au bv bu i ≡ 0)
-      → Scanned op (placesOver w a (lent av au) b (lent bv bu)) w k
-  same-start zero hw ha hb h =
-      record { apart = λ i l. absurd (omega arith); sure = λ i l. absurd (omega arith); stands = λ z. absurd (z (sym (length-tabulate w (λ i. (extentAt a (lent av au) i, extentAt b (lent bv bu) i))))) }
+      → Scanned op (placesOver w a (lent av au) b (lent bv bu)) 0 0 0 k
+  same-start zero hw ha hb h = none-found 0 (λ i l. absurd (omega arith)) (λ i l. absurd (omega arith))
   same-start (suc k) hw ha hb h =
       let q = same-words (getD av k 0) (getD au k 0) (getD bv k 0) (getD bu k 0) (h k (omega arith)) in
       let e : marksOf op (wordIn av au k) (wordIn bv bu k) ≡ marksBy 0 0 =

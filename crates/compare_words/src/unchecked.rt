@@ -145,8 +145,8 @@ fn marks_at(
 }
 
 // Scans two operands whose fills are settled, each read by its extent, at the width. The words are scanned from the first that was not
-// passed over, the bits of a word's mismatches from the lowest, and the scan is left at the first mismatch. `first` is the lowest place
-// so far that leaves the answer first, and the width while there is none.
+// passed over, the bits of a word's mismatches from the lowest, and the scan is left at the first mismatch. A word of marks without a
+// mismatch goes into `doubt`; the first in which a place leaves the answer open is `first`, of word `at`.
 pub fn scan_extents(
     op: Comparison,
     a: Extent,
@@ -164,15 +164,17 @@ pub fn scan_extents(
 {
     let n = least(a.width as usize, b.width as usize) / 64;
     let count = words::word_count(width);
-    let mut first = width;
+    let mut doubt = 0;
+    let mut first = 0;
+    let mut at = 0;
     let mut j = 0;
     let mut k = pass_same(av, au, bv, bu, n);
     'words: loop {
         if count <= k {
-            return if first == width {
+            return if doubt == 0 {
                 Found::Same
             } else {
-                Found::Unsure(first)
+                Found::Unsure((at * 64) as u32 + u64::trailing_zeros(first))
             };
         }
         let m = marks_at(op, a, av, au, b, bv, bu, width, n, k);
@@ -185,9 +187,11 @@ pub fn scan_extents(
             bits = bits / 2;
             j += 1;
         }
-        if (m.doubt != 0) & (first == width) {
-            first = (k * 64) as u32 + u64::trailing_zeros(m.doubt);
+        if doubt == 0 {
+            first = m.doubt;
+            at = k;
         }
+        doubt = doubt | m.doubt;
         k += 1;
     }
     Found::Mismatch((k * 64 + j) as u32)

@@ -10,13 +10,13 @@ use lib.ListN.{length, getD}
 use Rattle.bit.specs.declared.LogicBit.{LogicBit}
 use Rattle.bit.specs.declared.LogicBit.the-variants.{Zero, One, X, Z}
 use Rattle.bit.specs.Rules.{same, known}
-use Rattle.bit.proofs.Tests.{and-none}
+use Rattle.bit.proofs.Tests.{or-false, and-none}
 use Rattle.words.proofs.Planes.{length-tabulate, getD-tabulate}
 use Rattle.value.specs.Checks.{Vector}
 use Rattle.reduce_words.specs.Fold.{anyOf}
 use Rattle.extension.specs.Extension.{largerWidth, operandAt}
 use Rattle.compare_words.specs.Compared.{onPair, places, lowest}
-use Rattle.compare_words.proofs.Places.{zeros, none-clear, lowest-at}
+use Rattle.compare_words.proofs.Places.{zeros, Clear, none-clear, lowest-at}
 use Rattle.decide.specs.declared.Rule.{Rule}
 use Rattle.decide.specs.declared.Rule.the-variants.{KnownMismatch, Unknown, AllEqual, Numeric}
 use Rattle.decide.specs.Rule.{differs, holdsUnknown, ruleOf, passes, NoPlace, LowestPlace, Fits, OneFits}
@@ -28,21 +28,16 @@ no h = let z : _≡_ {A = ℕ} 0 1 = cc in absurd (omega arith)
 
 module _ {A : Type 0} (p : A → Bool) (e : A) where
   -- none passes
-  clear : (bs : List A) → anyOf p bs ≡ false → (i : ℕ) → i < length bs → p (getD bs i e) ≡ false
+  clear : (bs : List A) → anyOf p bs ≡ false → Clear p e bs (length bs)
   clear [] h i l = absurd (omega arith)
-  clear (b ∷ bs) h i l = go (p b) refl i l h (clear bs)
-    where
-      go : (z : Bool) → p b ≡ z → (i : ℕ) → i < suc (length bs) → (z || anyOf p bs) ≡ false
-          → (anyOf p bs ≡ false → (i : ℕ) → i < length bs → p (getD bs i e) ≡ false) → p (getD (b ∷ bs) i e) ≡ false
-      go true q i l h r = no (sym h)
-      go false q zero l h r = q
-      go false q (suc i) l h r = r h i (le-of-suc-le-suc l)
+  clear (b ∷ bs) h zero l = or-false (p b) (anyOf p bs) h .0
+  clear (b ∷ bs) h (suc i) l = clear bs (or-false (p b) (anyOf p bs) h .1) i (le-of-suc-le-suc l)
 
   -- one passes, and none before it does
   record Lowest (bs : List A) (i : ℕ) : Type 0 where
     inside : i < length bs
     holds : p (getD bs i e) ≡ true
-    none : (j : ℕ) → j < i → p (getD bs j e) ≡ false
+    none : Clear p e bs i
 
   lowest-of : (bs : List A) → anyOf p bs ≡ true → Lowest bs (lowest p bs)
   lowest-of [] h = no h
@@ -156,4 +151,4 @@ module _ (compares : LogicBit → LogicBit → Bool) (a b : Vector) where
   alone Numeric f = absurd f
 
 pub one-fits : OneFits
-one-fits compares a b = (fits compares a b, alone compares a b)
+one-fits compares a b = record { fitting = fits compares a b; alone = alone compares a b }

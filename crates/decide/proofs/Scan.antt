@@ -1,7 +1,7 @@
--- What the scan finds of two vectors tells the bit and the rule.
---     equal-scanned, wildcard-scanned    as the definitions have them
---     goes                               the bit goes with the rule
-use mathlib.Core.Path.{_≡_, refl, sym, ap, ap₂, _∙_}
+-- What the scan finds of two vectors tells the rule.
+--     equal-rule, wildcard-rule    as the definitions have it
+--     equal-goes, wildcard-goes    the bit goes with the rule
+use mathlib.Core.Path.{_≡_, refl, sym, ap₂, _∙_}
 use mathlib.Core.Bool.{Bool, true, false, not, _&&_, cond}
 use Prim.Native.Nat.{ℕ}
 use Rattle.bit.specs.declared.LogicBit.{LogicBit}
@@ -14,12 +14,11 @@ use Rattle.compare_words.specs.declared.Found.{Found}
 use Rattle.compare_words.specs.declared.Found.the-variants.{Mismatch, Unsure, Same}
 use Rattle.compare_words.specs.Compared.{mismatch, unsure, onPair, places, compared, lowest, found, foundBit}
 use Rattle.compare_words.proofs.Places.{answer-found}
-use Rattle.decide.specs.declared.Decision.{Decision}
 use Rattle.decide.specs.declared.Rule.the-variants.{KnownMismatch, Unknown, AllEqual}
 use Rattle.decide.specs.Rule.{everyPlace, rightKnown, differs, holdsUnknown, ruleOf, GoesWith}
-use Rattle.decide.specs.Decide.{decision, foundRule}
+use Rattle.decide.specs.Decide.{foundRule}
 
-pub goes : (f : Found) → GoesWith (foundRule f) (foundBit f)
+goes : (f : Found) → GoesWith (foundRule f) (foundBit f)
 goes (Mismatch i) = refl
 goes (Unsure i) = refl
 goes Same = refl
@@ -60,30 +59,24 @@ module _ (op : Comparison) (compares : LogicBit → LogicBit → Bool)
       go false true = refl
       go false false = refl
 
-  scanned : decision (foundBit (found op (places a b))) (foundRule (found op (places a b))) ≡ decision (compared op a b) (ruleOf compares a b)
-  scanned = ap₂ decision (answer-found op (places a b)) rule-scanned
-
   goes-with : GoesWith (ruleOf compares a b) (compared op a b)
   goes-with = rw (sym rule-scanned, sym (answer-found op (places a b))) (goes (found op (places a b)))
 
-module _ (a b : Vector) where
-  abbrev scannedBy : Comparison → Decision
-  scannedBy op = decision (foundBit (found op (places a b))) (foundRule (found op (places a b)))
+differ-known : mismatch WildcardEqual ≡ differs rightKnown
+differ-known = as-one (λ x y. differ-right (known x) (known y) (not (same x y)))
 
-  pub equal-scanned : scannedBy Equal ≡ decision (compared Equal a b) (ruleOf everyPlace a b)
-  equal-scanned = scanned Equal everyPlace refl refl a b
+unknown-known : unsure WildcardEqual ≡ holdsUnknown rightKnown
+unknown-known = as-one (λ x y. unknown-right (known x) (known y))
+
+module _ (a b : Vector) where
+  pub equal-rule : foundRule (found Equal (places a b)) ≡ ruleOf everyPlace a b
+  equal-rule = rule-scanned Equal everyPlace refl refl a b
 
   pub equal-goes : GoesWith (ruleOf everyPlace a b) (compared Equal a b)
   equal-goes = goes-with Equal everyPlace refl refl a b
 
-  differ-known : mismatch WildcardEqual ≡ differs rightKnown
-  differ-known = as-one (λ x y. differ-right (known x) (known y) (not (same x y)))
-
-  unknown-known : unsure WildcardEqual ≡ holdsUnknown rightKnown
-  unknown-known = as-one (λ x y. unknown-right (known x) (known y))
-
-  pub wildcard-scanned : scannedBy WildcardEqual ≡ decision (compared WildcardEqual a b) (ruleOf rightKnown a b)
-  wildcard-scanned = scanned WildcardEqual rightKnown differ-known unknown-known a b
+  pub wildcard-rule : foundRule (found WildcardEqual (places a b)) ≡ ruleOf rightKnown a b
+  wildcard-rule = rule-scanned WildcardEqual rightKnown differ-known unknown-known a b
 
   pub wildcard-goes : GoesWith (ruleOf rightKnown a b) (compared WildcardEqual a b)
   wildcard-goes = goes-with WildcardEqual rightKnown differ-known unknown-known a b

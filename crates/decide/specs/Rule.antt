@@ -68,13 +68,16 @@ Fits compares a b (Unknown i) = NoPlace a b (differs compares) × LowestPlace a 
 Fits compares a b AllEqual = EachEqual a b compares
 Fits compares a b Numeric = ⊥
 
--- ---- the law
+-- ---- the laws
 
--- whichever places a comparison compares, the rule that is told fits, and no other does
+-- exactly one rule fits, r
+pub record Only (fits : Rule → Type 0) (r : Rule) : Type 0 where
+  pub fitting : fits r
+  pub alone : (s : Rule) → fits s → s ≡ r
+
+-- whichever places a comparison compares, exactly the rule that is told fits
 abbrev pub OneFits : Type 0
-OneFits =
-    (compares : LogicBit → LogicBit → Bool) (a b : Vector)
-    → Fits compares a b (ruleOf compares a b) × ((r : Rule) → Fits compares a b r → r ≡ ruleOf compares a b)
+OneFits = (compares : LogicBit → LogicBit → Bool) (a b : Vector) → Only (Fits compares a b) (ruleOf compares a b)
 
 -- the bit that goes with a rule: 0, x or 1; where an operand is a real, 0 or 1
 abbrev pub GoesWith : Rule → LogicBit → Type 0

@@ -1,10 +1,10 @@
 // Equality and wildcard equality that tell, beside the bit, which rule decided.
 use bit::LogicBit;
-use compare::is_equal;
 use compare_words::Comparison;
 use compare_words::Found;
 use compare_words::found_bit;
 use compare_words::unchecked::scan;
+use real_equal::unchecked::equal_reals;
 use refusal::Refusal;
 use refusal::Verdict;
 use value::BitAnswer;
@@ -13,8 +13,10 @@ use value::Operand;
 use value::check_pair;
 ghost use mathlib.Core.Path.{_≡_};
 ghost use Rattle.words.specs.Planes.{lentBy};
+ghost use Rattle.value.specs.declared.Operand.the-variants.{Vector};
 ghost use Rattle.value.specs.Answers.{bitAnswer};
-ghost use Rattle.decide.specs.Decide.{decisionAnswer, decideEqual, decideWildcard, foundRule, decideScanned, numericDecision};
+ghost use Rattle.decide.specs.declared.Rule.the-variants.{Numeric};
+ghost use Rattle.decide.specs.Decide.{decisionAnswer, withRule, decideEqual, decideWildcard, foundRule, decideScanned};
 
 // The lowest place that holds two different known bits; if there is none, the lowest compared place that holds an unknown bit; if there is
 // none either, all compared places are equal. Numeric where an operand is a real.
@@ -31,6 +33,7 @@ pub struct Decision {
     pub rule: Rule,
 }
 
+// A decision, or the refusal.
 pub enum DecisionAnswer {
     Decided(Decision),
     Refused(Refusal),
@@ -72,9 +75,9 @@ fn decide_scanned(
     }
 }
 
-// The rule where an operand is a real.
+// A bit by the rule "numeric"; a refusal stays.
 fn numeric(a: BitAnswer) -> DecisionAnswer
-    ensures { λ r. ⌜ decisionAnswer r ≡ numericDecision (bitAnswer a) ⌝ }
+    ensures { λ r. ⌜ decisionAnswer r ≡ withRule Numeric (bitAnswer a) ⌝ }
 {
     match a {
         BitAnswer::Bit(b) => DecisionAnswer::Decided(Decision {
@@ -83,6 +86,21 @@ fn numeric(a: BitAnswer) -> DecisionAnswer
         }),
         BitAnswer::Refused(r) => DecisionAnswer::Refused(r),
     }
+}
+
+// The answer of `is_equal` of two vectors, and the rule.
+pub fn decide_vectors(
+    a: Header,
+    av: &[u64],
+    au: &[u64],
+    b: Header,
+    bv: &[u64],
+    bu: &[u64],
+) -> DecisionAnswer
+    ensures { λ r. ⌜ decisionAnswer r
+        ≡ decideEqual (Vector a) (lentBy (av .entry) (au .entry)) (Vector b) (lentBy (bv .entry) (bu .entry)) ⌝ }
+{
+    decide_scanned(Comparison::Equal, a, av, au, b, bv, bu)
 }
 
 // The answer of `is_equal`, and the rule.
@@ -99,10 +117,10 @@ pub fn decide_equal(
 {
     match a {
         Operand::Vector(h) => match b {
-            Operand::Vector(g) => decide_scanned(Comparison::Equal, h, av, au, g, bv, bu),
-            Operand::Real(_) => numeric(is_equal(a, av, au, b, bv, bu)),
+            Operand::Vector(g) => decide_vectors(h, av, au, g, bv, bu),
+            Operand::Real(_) => numeric(equal_reals(a, av, au, b, bv, bu)),
         },
-        Operand::Real(_) => numeric(is_equal(a, av, au, b, bv, bu)),
+        Operand::Real(_) => numeric(equal_reals(a, av, au, b, bv, bu)),
     }
 }
 

@@ -1,14 +1,11 @@
-// The operators whose answer is a bit, for C and Rust: the answer is the bit's code, with its rule if that is asked for, or a refusal. Each
-// export asks nothing of its caller and does nothing but call its entry.
+// The operators whose answer is a bit, for C and Rust: the answer is the bit's code, or a refusal. Each export asks nothing of its caller
+// and does nothing but call its entry.
 use abi::BitResult;
-use abi::DecisionResult;
 use abi::bit_result;
-use abi::decision_result;
 use abi::operand;
 use abi::truth_result;
 use compare_words::Comparison;
 use value::Header;
-use value::Operand;
 ghost use mathlib.Core.Path.{_≡_};
 ghost use Rattle.words.specs.Planes.{lentBy};
 ghost use Rattle.value.specs.declared.Operand.the-variants.{Vector};
@@ -18,8 +15,7 @@ ghost use Rattle.reduce.specs.Reduce.{reduction};
 ghost use Rattle.truth.specs.Logic.{logicAnd, logicOr};
 ghost use Rattle.compare_words.specs.declared.Comparison.the-variants.{CaseEqual, CasezEqual, CasexEqual, WildcardEqual};
 ghost use Rattle.compare.specs.Compare.{comparison, isEqual};
-ghost use Rattle.decide.specs.Decide.{decideEqual, decideWildcard};
-ghost use Rattle.abi.specs.Coded.{codedBit, codedTruth, codedDecision, operandOf};
+ghost use Rattle.abi.specs.Coded.{codedBit, codedTruth, operandOf};
 
 // `reduce::reduce_and`
 #[no_mangle]
@@ -211,61 +207,4 @@ pub extern "C" fn vowherunga_wildcard_eq(
         ≡ codedBit (comparison WildcardEqual a (lentBy (av .entry) (au .entry)) b (lentBy (bv .entry) (bu .entry))) ⌝ }
 {
     bit_result(compare::wildcard_eq(a, av, au, b, bv, bu))
-}
-
-// `decide::decide_equal`
-#[no_mangle]
-pub extern "C" fn vowherunga_decide_equal(
-    a_is_real: bool,
-    a: Header,
-    a_real: f64,
-    av: &[u64],
-    au: &[u64],
-    b_is_real: bool,
-    b: Header,
-    b_real: f64,
-    bv: &[u64],
-    bu: &[u64],
-) -> DecisionResult
-    ensures { λ r. ⌜ r
-        ≡ codedDecision
-        (decideEqual (operandOf «a_is_real» a «a_real») (lentBy (av .entry) (au .entry))
-        (operandOf «b_is_real» b «b_real») (lentBy (bv .entry) (bu .entry))) ⌝ }
-{
-    let x = operand(a_is_real, a, a_real);
-    let y = operand(b_is_real, b, b_real);
-    decision_result(decide::decide_equal(x, av, au, y, bv, bu))
-}
-
-// `decide::decide_equal` of two vectors
-#[no_mangle]
-pub extern "C" fn vowherunga_decide_equal_vectors(
-    a: Header,
-    av: &[u64],
-    au: &[u64],
-    b: Header,
-    bv: &[u64],
-    bu: &[u64],
-) -> DecisionResult
-    ensures { λ r. ⌜ r
-        ≡ codedDecision
-        (decideEqual (Vector a) (lentBy (av .entry) (au .entry)) (Vector b) (lentBy (bv .entry) (bu .entry))) ⌝ }
-{
-    decision_result(decide::decide_equal(Operand::Vector(a), av, au, Operand::Vector(b), bv, bu))
-}
-
-// `decide::decide_wildcard`
-#[no_mangle]
-pub extern "C" fn vowherunga_decide_wildcard(
-    a: Header,
-    av: &[u64],
-    au: &[u64],
-    b: Header,
-    bv: &[u64],
-    bu: &[u64],
-) -> DecisionResult
-    ensures { λ r. ⌜ r
-        ≡ codedDecision (decideWildcard a (lentBy (av .entry) (au .entry)) b (lentBy (bv .entry) (bu .entry))) ⌝ }
-{
-    decision_result(decide::decide_wildcard(a, av, au, b, bv, bu))
 }

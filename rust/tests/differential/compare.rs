@@ -1,4 +1,5 @@
-//! Equality, case equality and wildcard equality, against the reference's `Value` and, where it is the standard that decides, against that.
+//! Equality, case equality and wildcard equality, also with the rule told, against the reference's `Value` and, where the standard decides,
+//! against that.
 use crate::alike::Tally;
 use crate::reduce::of_operands;
 use crate::samples::each_pair;
@@ -46,4 +47,21 @@ fn casex_eq() {
 #[test]
 fn wildcard_eq() {
     of_vectors(44, compare::wildcard_eq, Op::WildcardEqual, &[Zero, One, X]).expect(Op::WildcardEqual.name());
+}
+
+/// The bit beside a rule is the comparison's.
+#[test]
+fn decide_equal() {
+    of_operands(
+        45,
+        |a, av, au, b, bv, bu| Ok(compare::decide_equal(a, av, au, b, bv, bu)?.bit),
+        Value::is_equal,
+        &[Zero, One],
+    );
+}
+
+#[test]
+fn decide_wildcard() {
+    let ours: OfTwo = |a, av, au, b, bv, bu| Ok(compare::decide_wildcard(a, av, au, b, bv, bu)?.bit);
+    of_vectors(46, ours, Op::WildcardEqual, &[Zero, One, X]).expect("decide_wildcard");
 }

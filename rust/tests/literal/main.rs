@@ -3,6 +3,8 @@
 mod damage;
 mod draw;
 mod evaluator;
+#[path = "../generator/mod.rs"]
+mod generator;
 mod icarus;
 mod lengths;
 #[path = "../lent/mod.rs"]

@@ -37,7 +37,7 @@ enum Entry {
     Bitwise(fn(Header, Plane, Plane, Header, Plane, Plane, Output, Output) -> Result<Header, Refusal>),
 }
 
-const ENTRIES: [(&str, Entry); 17] = [
+const ENTRIES: [(&str, Entry); 19] = [
     ("check_vector", Entry::Check(value::check_vector)),
     ("reduce_and", Entry::Reduction(reduce::reduce_and)),
     ("reduce_or", Entry::Reduction(reduce::reduce_or)),
@@ -50,6 +50,14 @@ const ENTRIES: [(&str, Entry); 17] = [
     ("casez_eq", Entry::Comparison(compare::casez_eq)),
     ("casex_eq", Entry::Comparison(compare::casex_eq)),
     ("wildcard_eq", Entry::Comparison(compare::wildcard_eq)),
+    (
+        "decide_equal",
+        Entry::OfOperands(|a, av, au, b, bv, bu| Ok(compare::decide_equal(a, av, au, b, bv, bu)?.bit)),
+    ),
+    (
+        "decide_wildcard",
+        Entry::Comparison(|a, av, au, b, bv, bu| Ok(compare::decide_wildcard(a, av, au, b, bv, bu)?.bit)),
+    ),
     ("bitwise_not", Entry::Not(bitwise::bitwise_not)),
     ("bitwise_and", Entry::Bitwise(bitwise::bitwise_and)),
     ("bitwise_or", Entry::Bitwise(bitwise::bitwise_or)),
@@ -148,5 +156,5 @@ fn of_operators() {
             };
         }
     }
-    assert!(calls > 33_000, "{calls} calls");
+    assert!(calls > 37_000, "{calls} calls");
 }

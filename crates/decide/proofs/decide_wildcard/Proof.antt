@@ -1,12 +1,13 @@
--- `decide::decide_wildcard`: what the scan finds tells the bit and the rule.
+-- `decide::decide_wildcard`: what the scan finds tells the rule.
 use mathlib.Core.Path.{ap, _∙_}
 use borrow.Author.Needs.{needs}
-use Rattle.refusal.specs.Outcome.{Answer, after}
-use Rattle.refusal.specs.Outcome.Answer.{given}
 use Rattle.words.specs.Planes.{lent}
-use Rattle.value.specs.Checks.{vector, checkPair}
-use Rattle.decide.specs.declared.Decision.{Decision}
-use Rattle.decide.proofs.Scan.{wildcard-scanned}
+use Rattle.value.specs.Checks.{vector}
+use Rattle.compare_words.specs.declared.Comparison.the-variants.{WildcardEqual}
+use Rattle.compare.specs.Compare.{comparison}
+use Rattle.decide.specs.declared.Rule.{Rule}
+use Rattle.decide.specs.Decide.{withRule}
+use Rattle.decide.proofs.Scan.{wildcard-rule}
 use Rattle.decide.proofs.decide_wildcard.Statement.{statement}
 use Rattle.decide.proofs.decide_wildcard.Tie as tie
 
@@ -16,9 +17,10 @@ decide-scanned-requires c κs = search needs
 returns : tie.Need-returns
 returns c =
     let a = c .before .before .before .before .before .args in
+    let p = lent (a .av .now) (a .au .now) in
+    let q = lent (a .bv .now) (a .bu .now) in
     c .decide-scanned .ensures
-    ∙ ap (λ (d : Decision). after (checkPair (a .a) (lent (a .av .now) (a .au .now)) (a .b) (lent (a .bv .now) (a .bu .now))) (given d))
-    (wildcard-scanned (vector (a .a) (lent (a .av .now) (a .au .now))) (vector (a .b) (lent (a .bv .now) (a .bu .now))))
+    ∙ ap (λ (r : Rule). withRule r (comparison WildcardEqual (a .a) p (a .b) q)) (wildcard-rule (vector (a .a) p) (vector (a .b) q))
 
 pub decide-wildcard-spec : {M : Type 1} → statement M
 decide-wildcard-spec = tie.close (tie.spec decide-scanned-requires returns)

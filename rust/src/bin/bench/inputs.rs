@@ -35,6 +35,12 @@ impl Input {
         Input::new(width, || rng.next(), || if mixed { other.next() } else { 0 })
     }
 
+    /// Two equal vectors of random bits; where they are mixed, a random half is unknown.
+    pub fn equal(rng: &mut Rng, width: u32, mixed: bool) -> [Input; 2] {
+        let seed = rng.next();
+        [(), ()].map(|()| Input::random(&mut Rng::new(seed), width, mixed))
+    }
+
     /// One word repeated; where they are mixed, a random half of the bits is unknown.
     pub fn repeated(rng: &mut Rng, width: u32, word: u64, mixed: bool) -> Input {
         Input::new(width, || word, || if mixed { rng.next() } else { 0 })

@@ -4,6 +4,7 @@
 //! reference: the operator of `Value`, which allocates its result where that is wider than 64 bits; the drop is in the time too.
 //! ours: the function over planes, every check included, into planes that are lent again for each call.
 //! by value: the method of `Narrow`, at most 64 bits.
+//! decide: the comparison over planes that tells its rule; it is raced with our own that gives the bit alone, not with the reference.
 //! Each side finds its operands behind a pointer.
 //! Inputs are known, or mixed: half of the bits unknown. Those of comparisons, reductions and truth are such that the scan goes to the end:
 //! equal operands; all 1 or all 0 but for unknown bits; for the reduction by xor only the top bit is unknown.
@@ -17,10 +18,17 @@ use race::{Race, Side};
 use std::hint::black_box;
 use vowherunga::reference::draw::Rng;
 use vowherunga::reference::value::Value;
-use vowherunga::{bitwise, compare, reduce, Header, LogicBit, Narrow, Operand, Refusal, MAX_WIDTH};
+use vowherunga::{bitwise, compare, reduce, Decision, Header, LogicBit, Narrow, Operand, Refusal, MAX_WIDTH};
 
 const WIDTHS: [u32; 7] = [1, 32, 64, 65, 128, 4096, MAX_WIDTH];
 const ROUNDS: usize = 5;
+
+/// Every width with either kind of input: whether it is mixed, and its name.
+fn kinds() -> impl Iterator<Item = (u32, bool, &'static str)> {
+    WIDTHS
+        .into_iter()
+        .flat_map(|width| [(width, false, "known"), (width, true, "mixed")])
+}
 
 /// What a race is about: an operator, a width, known or mixed inputs, and its last side.
 struct Row {
@@ -46,23 +54,25 @@ impl Rows {
     /// A race of each of our sides with the reference, at every width with either kind of input. `sides` gives the reference's side, ours,
     /// and that by value if there is one.
     fn add(&mut self, op: &'static str, sides: impl Fn(&mut Rng, u32, bool) -> (Side, Side, Option<Side>)) {
-        for width in WIDTHS {
-            for (mixed, input) in [(false, "known"), (true, "mixed")] {
-                let (reference, ours, by_value) = sides(&mut self.1, width, mixed);
-                let mut all = vec![("ours", vec![reference, ours])];
-                if let Some(by_value) = by_value {
-                    let (reference, _, _) = sides(&mut self.1, width, mixed);
-                    all.push(("by value", vec![reference, by_value]));
-                }
-                self.0.extend(all.into_iter().map(|(side, sides)| Row {
-                    op,
-                    width,
-                    input,
-                    side,
-                    race: Race::new(sides),
-                }));
+        for (width, mixed, input) in kinds() {
+            let (reference, ours, by_value) = sides(&mut self.1, width, mixed);
+            self.push(op, width, input, "ours", [reference, ours]);
+            if let Some(by_value) = by_value {
+                let (reference, _, _) = sides(&mut self.1, width, mixed);
+                self.push(op, width, input, "by value", [reference, by_value]);
             }
         }
+    }
+
+    fn push(&mut self, op: &'static str, width: u32, input: &'static str, side: &'static str, sides: [Side; 2]) {
+        let race = Race::new(sides.into());
+        self.0.push(Row {
+            op,
+            width,
+            input,
+            side,
+            race,
+        });
     }
 
     /// An operator of two vectors that gives a vector.
@@ -114,14 +124,28 @@ impl Rows {
         by_value: impl Fn(Narrow, Narrow) -> LogicBit + Copy + 'static,
     ) {
         self.add(op, |rng, width, mixed| {
-            let seed = rng.next();
-            let [a, b] = [(), ()].map(|()| Input::random(&mut Rng::new(seed), width, mixed));
+            let [a, b] = Input::equal(rng, width, mixed);
             let reference = side(move || theirs(black_box(a.reference), black_box(b.reference)));
             let lent = side(move || ours(black_box(&a), black_box(&b)).unwrap());
             let narrow = a.narrow().zip(b.narrow());
             let word = narrow.map(|(x, y)| side(move || by_value(*black_box(&x), *black_box(&y))));
             (reference, lent, word)
         });
+    }
+
+    /// A comparison of two equal vectors that tells its rule, raced with the one that does not.
+    fn decision(
+        &mut self,
+        op: &'static str,
+        bit: impl Fn(&Input, &Input) -> Result<LogicBit, Refusal> + Copy + 'static,
+        decision: impl Fn(&Input, &Input) -> Result<Decision, Refusal> + Copy + 'static,
+    ) {
+        for (width, mixed, input) in kinds() {
+            let [a, b] = Input::equal(&mut self.1, width, mixed);
+            let without = side(move || bit(black_box(&a), black_box(&b)).unwrap());
+            let with = side(move || decision(black_box(&a), black_box(&b)).unwrap());
+            self.push(op, width, input, "decide", [without, with]);
+        }
     }
 
     /// A reduction, over inputs that a rule gives.
@@ -227,21 +251,29 @@ fn rows() -> Rows {
         Narrow::reduce_xor,
     );
     rows.truth();
+    let decide_equal = |a: &Input, b: &Input| {
+        let [x, y] = [a, b].map(|input| Operand::Vector(input.header));
+        compare::decide_equal(x, a.value, a.unknown, y, b.value, b.unknown)
+    };
+    let decide_wildcard = |a: &Input, b: &Input| compare::decide_wildcard(a.header, a.value, a.unknown, b.header, b.value, b.unknown);
+    rows.decision("decide equal", equal, decide_equal);
+    rows.decision("decide wildcard", wildcard, decide_wildcard);
     rows
 }
 
-fn print_table(rows: &[Row], side: &str) {
-    println!("\n| op | width | input | reference ns | {side} ns | ratio | least and largest of {ROUNDS} rounds |");
+/// The rows of a side, if there are any; `first` is what they were raced with.
+fn print_table(rows: &[Row], first: &str, side: &str) {
+    let mut rows = rows.iter().filter(|row| row.side == side).peekable();
+    if rows.peek().is_none() {
+        return;
+    }
+    println!("\n| op | width | input | {first} ns | {side} ns | ratio | least and largest of {ROUNDS} rounds |");
     println!("|---|---|---|---|---|---|---|");
-    for Row {
-        op, width, input, race, ..
-    } in rows.iter().filter(|row| row.side == side)
-    {
-        let r = race.result();
-        let (reference, ours) = (r.times[0], r.times[1]);
+    for row in rows {
+        let r = row.race.result();
         println!(
-            "| {op} | {width} | {input} | {reference:.1} | {ours:.1} | {:.3} | {:.3} to {:.3} |",
-            r.ratio, r.least, r.largest
+            "| {} | {} | {} | {:.1} | {:.1} | {:.3} | {:.3} to {:.3} |",
+            row.op, row.width, row.input, r.times[0], r.times[1], r.ratio, r.least, r.largest
         );
     }
 }
@@ -261,10 +293,9 @@ fn main() {
         kept.round();
         literals.round();
     }
-    if !rows.is_empty() {
-        print_table(&rows, "ours");
-        print_table(&rows, "by value");
-    }
+    print_table(&rows, "reference", "ours");
+    print_table(&rows, "reference", "by value");
+    print_table(&rows, "is_equal or wildcard_eq", "decide");
     let r = copy.result();
     println!(
         "\n`and` of {MAX_WIDTH} bits, which reads four planes and writes two, takes {:.0} ns; to copy two planes of that width to two others \

@@ -1,7 +1,7 @@
 -- The answer is coded by `decision_result`, and the entry ensures the rest.
 use borrow.Author.Needs.{needs}
-use Rattle.ffi_answers.proofs.vowherunga_decide_wildcard.Statement.{statement}
-use Rattle.ffi_answers.proofs.vowherunga_decide_wildcard.Tie as tie
+use Rattle.ffi_decide_wildcard.proofs.vowherunga_decide_wildcard.Statement.{statement}
+use Rattle.ffi_decide_wildcard.proofs.vowherunga_decide_wildcard.Tie as tie
 
 returns : tie.Need-returns
 returns c = rw (c .decision-result .ensures, c .before .decide-wildcard .ensures)

@@ -1,7 +1,7 @@
 -- The answer is coded by `decision_result`, and the entry ensures the rest.
 use borrow.Author.Needs.{needs}
-use Rattle.ffi_answers.proofs.vowherunga_decide_equal.Statement.{statement}
-use Rattle.ffi_answers.proofs.vowherunga_decide_equal.Tie as tie
+use Rattle.ffi_decide.proofs.vowherunga_decide_equal.Statement.{statement}
+use Rattle.ffi_decide.proofs.vowherunga_decide_equal.Tie as tie
 
 returns : tie.Need-returns
 returns c = rw (c .decision-result .ensures, c .before .decide-equal .ensures, c .before .before .before .operand .ensures, c .before .before .operand2 .ensures)

@@ -1,0 +1,24 @@
+// Wildcard equality that tells which rule decided, for C and Rust, as `ffi_decide` has equality.
+use abi::DecisionResult;
+use abi::decision_result;
+use value::Header;
+ghost use mathlib.Core.Path.{_≡_};
+ghost use Rattle.words.specs.Planes.{lentBy};
+ghost use Rattle.decide.specs.Decide.{decideWildcard};
+ghost use Rattle.abi.specs.Coded.{codedDecision};
+
+// `decide::decide_wildcard`
+#[no_mangle]
+pub extern "C" fn vowherunga_decide_wildcard(
+    a: Header,
+    av: &[u64],
+    au: &[u64],
+    b: Header,
+    bv: &[u64],
+    bu: &[u64],
+) -> DecisionResult
+    ensures { λ r. ⌜ r
+        ≡ codedDecision (decideWildcard a (lentBy (av .entry) (au .entry)) b (lentBy (bv .entry) (bu .entry))) ⌝ }
+{
+    decision_result(decide::decide_wildcard(a, av, au, b, bv, bu))
+}
