@@ -1,5 +1,5 @@
 // The answers of the entries as numbers, for C and Rust. A refusal is its number, and 0 is done; a bit is its code, a word of both planes
-// two numbers; the other fields of a refused call are 0.
+// two numbers, a rule its number, counted from 1, and its place, 0 where it has none; the other fields of a refused call are 0.
 use decide::Decision;
 use decide::DecisionAnswer;
 use decide::Rule;
@@ -157,7 +157,7 @@ pub fn truth_result(a: TruthAnswer) -> BitResult
     }
 }
 
-// A bit by its code, and the rule that decided by its number, counted from 1, and its place, 0 where it has none.
+// A bit by its code, and the rule that decided it.
 fn decided(d: Decision) -> DecisionResult
     ensures { λ r. ⌜ r ≡ codedDecision (given d) ⌝ }
 {
@@ -192,7 +192,7 @@ fn decided(d: Decision) -> DecisionResult
     }
 }
 
-// A decision.
+// A decision by its bit and rule.
 pub fn decision_result(a: DecisionAnswer) -> DecisionResult
     ensures { λ r. ⌜ r ≡ codedDecision (decisionAnswer a) ⌝ }
 {

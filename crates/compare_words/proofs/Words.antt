@@ -8,14 +8,13 @@
 --     same-start     words that are known and the same hold no mismatch and leave nothing open
 --     one-word       the answer of operands that have one word each
 use mathlib.Core.Path.{_≡_, refl, sym, ap, ap₂, _∙_}
-use mathlib.Core.Logic.{_⊎_, inl, inr, ⊎-elim}
-use mathlib.Core.Bool.{Bool, true, false, not, _&&_, _||_, cond}
+use mathlib.Core.Logic.{⊎-elim}
+use mathlib.Core.Bool.{Bool, true, false, not, _||_, cond}
 use mathlib.Core.List.{List}
-use Prim.Native.Nat.{ℕ, zero, suc, _+_, _-_, _*_, _/_, _%_, _^_, _≤_, _<_, min, suc-le-suc}
+use Prim.Native.Nat.{ℕ, zero, suc, _+_, _-_, _*_, _/_, _%_, _^_, _≤_, _<_, min}
 use native.Mathlib.Nat.{lt-of-le-of-lt, zero-add, add-zero, mul-assoc, mul-comm, mul-one, suc-mul, pow-suc}
 use native.Mathlib.Numerals.{add-one}
 use native.Mathlib.Omega.{arith}
-use borrow.Author.Tests.{eqb-true, eqb-false, not-true}
 use lib.Dec.{T, eqb, lit<}
 use lib.Arith.{lt-one}
 use lib.Count.{trailingZeros, under}
@@ -24,7 +23,6 @@ use lib.Bits.{bitAnd, bitOr, bitXor, and-mask, and-le-l, and-le-r, or-zero-r, or
 use lib.ListN.{getD}
 use Rattle.bit.specs.declared.LogicBit.{LogicBit}
 use Rattle.bit.specs.declared.LogicBit.the-variants.{Zero, One}
-use Rattle.bit.proofs.Tests.{and-true}
 use Rattle.words.specs.declared.Word.{Word}
 use Rattle.words.specs.Vector.{bitAt, tabulate, pack}
 use Rattle.words.specs.Planes.{stored, bitOf, wordAt, lent, wordBy}
@@ -33,8 +31,8 @@ use Rattle.words.proofs.Planes.{getD-tabulate, getD-tabulate-out, length-tabula
 use Rattle.words.proofs.Lanes.{Lane, word, gives, lane}
 use Rattle.words.proofs.Extend.{cut, word-bit}
 use Rattle.reduce_words.specs.Fold.{anyOf}
-use Rattle.reduce_words.proofs.Scanned.{gather, some}
-use Rattle.reduce_words.proofs.Gather.{gather-cong, gather-add}
+use Rattle.reduce_words.proofs.Scanned.{some}
+use Rattle.reduce_words.proofs.Gather.{gather-cong}
 use Rattle.reduce_words.proofs.Places.{any-some, nonzero, inside}
 use Rattle.extension.specs.declared.Extent.{Extent}
 use Rattle.extension.specs.Extension.{extentAt}

@@ -65,7 +65,7 @@ compared op a b = decided op (places a b)
 -- ---- what a scan finds: document 01, "Answer bit", and "Which places take which form" (the scan is left at the first known mismatch)
 
 module _ {A : Type 0} where
-  -- the lowest place of a list whose member passes the test; the list's length where none does
+  -- the lowest place of a list whose member passes the test, where one does
   abbrev pub lowest : (A → Bool) → List A → ℕ
   lowest p [] = 0
   lowest p (b ∷ bs) = cond (p b) 0 (suc (lowest p bs))

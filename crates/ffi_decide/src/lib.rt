@@ -1,6 +1,6 @@
 // Equality that tells which rule decided, for C and Rust: the answer is the bit's code, the rule's number and its place, or a refusal. The
-// export asks nothing of its caller and does nothing but call its entry. Each comparison that tells its rule has a static library of its own:
-// there its scan is compiled for it alone.
+// export asks nothing of its caller and does nothing but call its entry. Each comparison that tells its rule has a static library of its
+// own: there its scan is compiled for it alone.
 use abi::DecisionResult;
 use abi::decision_result;
 use abi::operand;

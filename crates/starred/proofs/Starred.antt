@@ -1,7 +1,8 @@
 -- Every case holds, by computation.
 use mathlib.Core.Path.{refl}
-use lib.Ieee.{eq}
-use Rattle.words.specs.Vector.{tabulate}
+use lib.Ieee.{ofInt, ofBits, eq}
+use Rattle.words.specs.Vector.{tabulate, pack}
+use Rattle.real_equal.specs.Numeric.{vectorInteger}
 use Rattle.starred.specs.Starred.{Hold, starred, pointTwo, pointThree}
 
 pub starred-hold : Hold starred
@@ -13,5 +14,5 @@ unfolding tabulate
 point-two-hold = refl
 
 pub point-three-hold : Hold pointThree
-unfolding tabulate eq
+unfolding tabulate pack vectorInteger ofInt ofBits eq
 point-three-hold = refl

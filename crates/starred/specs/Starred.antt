@@ -5,13 +5,14 @@ use mathlib.Core.Bool.{Bool, true, false, cond}
 use mathlib.Core.List.{List, [], _∷_, map, reverse}
 use Prim.Native.Nat.{ℕ}
 use lib.ListN.{length}
-use lib.Ieee.{Float, nan}
+use lib.Ieee.{binary64, nan, ofBits}
 use Rattle.bit.specs.declared.LogicBit.{LogicBit}
 use Rattle.bit.specs.declared.LogicBit.the-variants.{Zero, One, X}
 use Rattle.bit.specs.Rules.{ofCode}
 use Rattle.words.specs.Planes.{Planes}
 use Rattle.value.specs.declared.Header.{Header}
-use Rattle.value.specs.declared.Operand.the-variants.{Real}
+use Rattle.value.specs.declared.Operand.{Operand}
+use Rattle.value.specs.declared.Operand.the-variants as operand
 use Rattle.value.specs.Checks.{Vector}
 use Rattle.lanes.specs.declared.Bitwise.{Bitwise}
 use Rattle.lanes.specs.declared.Bitwise.the-variants.{And, Or, Xor, Merge}
@@ -66,6 +67,10 @@ pub record Case (A : Type 0) : Type 0 where
 infixl 90 _is_
 abbrev _is_ : List LogicBit → List ℕ → Case (List LogicBit)
 given is said = record { given = given; said = bits said }
+
+infixl 85 _tells_
+abbrev _tells_ : Decision → Decision → Case Decision
+given tells said = record { given = given; said = said }
 
 module _ {A : Type 0} where
   -- in every case the definition gives what the document says
@@ -128,11 +133,14 @@ a equal b = decision (compared Equal a b) (ruleOf everyPlace a b)
 abbrev _wildcard_ : Vector → Vector → Decision
 a wildcard b = decision (compared WildcardEqual a b) (ruleOf rightKnown a b)
 
--- two reals, beside which no planes are lent
-abbrev reals : Float → Float → Decision
-reals a b =
+-- an equality with a real; no planes are lent, so that a vector is empty
+abbrev numeric : Operand → Operand → Decision
+numeric a b =
     let none : Planes = record { value = []; unknown = [] } in
-    decision (equalOperands (Real a) none (Real b) none) (equalRule (Real a) none (Real b) none)
+    decision (equalOperands a none b none) (equalRule a none b none)
+
+abbrev empty : Operand
+empty = operand.Vector (marked 0 false false)
 
 abbrev mismatch : ℕ → Decision
 mismatch i = decision Zero (KnownMismatch i)
@@ -143,10 +151,7 @@ unknown i = decision X (Unknown i)
 abbrev allEqual : Decision
 allEqual = decision One AllEqual
 
-infixl 85 _tells_
-abbrev _tells_ : Decision → Decision → Case Decision
-given tells said = record { given = given; said = said }
-
+-- which rule decided, and the bit: known mismatches, unknown bits on either side, vectors of two widths, fills, places that are not compared, reals
 abbrev pub pointThree : List (Case Decision)
 pointThree =
     u (1 ∷ x ∷ []) equal u (0 ∷ x ∷ []) tells mismatch 1
@@ -158,6 +163,8 @@ pointThree =
     ∷ s (x ∷ 0 ∷ []) equal s (0 ∷ 1 ∷ 0 ∷ 0 ∷ []) tells unknown 1
     ∷ s (1 ∷ 0 ∷ []) equal s (0 ∷ 1 ∷ 1 ∷ 0 ∷ []) tells mismatch 3
     ∷ u (1 ∷ 0 ∷ []) equal s (0 ∷ 1 ∷ 1 ∷ 0 ∷ []) tells mismatch 2
+    ∷ u (1 ∷ 0 ∷ 0 ∷ 0 ∷ 0 ∷ 0 ∷ []) equal u (0 ∷ []) tells mismatch 5
+    ∷ u (0 ∷ 1 ∷ []) equal f (1 ∷ []) tells mismatch 1
     ∷ f (x ∷ 0 ∷ []) equal u (0 ∷ 0 ∷ []) tells allEqual
     ∷ u [] equal u (1 ∷ 0 ∷ 0 ∷ []) tells mismatch 2
     ∷ u [] equal u [] tells allEqual
@@ -169,5 +176,8 @@ pointThree =
     ∷ u (1 ∷ 1 ∷ []) wildcard u (1 ∷ x ∷ []) tells allEqual
     ∷ f (x ∷ []) wildcard u (1 ∷ 1 ∷ 1 ∷ 1 ∷ []) tells unknown 0
     ∷ s (x ∷ []) wildcard s (1 ∷ x ∷ []) tells unknown 1
-    ∷ reals nan nan tells decision Zero Numeric
+    ∷ u (x ∷ z ∷ []) wildcard u (1 ∷ 1 ∷ []) tells unknown 0
+    ∷ numeric (operand.Real nan) (operand.Real nan) tells decision Zero Numeric
+    ∷ numeric (operand.Real (ofBits binary64 0)) empty tells decision One Numeric
+    ∷ numeric empty (operand.Real nan) tells decision Zero Numeric
     ∷ []
