@@ -3,7 +3,10 @@
 --     mark           a mark of word k, cut off at the width, is 1 where its place passes the test
 --     word-marked    the marks of word k, cut off at the width, are not 0 where a place of word k passes the test
 --     halved, few    the bits of a word taken lowest first: one that is 0 is passed; one that is left lies in the word
---     next, left     one word more without a mismatch; the scan is left at the lowest one of a word's mismatches
+--     trailing       a word that is not 0 is an odd number over as many zeros as it ends in
+--     next           one word more without a mismatch, behind one with an unsure place
+--     next-first     one word more without a mismatch, the first with an unsure place if it has one
+--     left           the scan is left at the lowest one of a word's mismatches
 --     whole-marks    the marks of words straight from the planes, where both operands have them whole
 --     same-start     words that are known and the same hold no mismatch and leave nothing open
 --     one-word       the answer of operands that have one word each
@@ -88,7 +91,7 @@ module _ (t : LogicBit → LogicBit → Bool) (fails : t Zero Zero ≡ false) (f
       ap (λ (m : ℕ). eqb (bitAt m j) 1) packed-hits
       ∙ ap (λ (d : ℕ). eqb d 1) (pack-bit 64 (λ j. cond (hit j) 1 0) (λ j _. digit-lt (hit j)) j l) ∙ digit-one (hit j)
 
-  pub word-marked : not (eqb (below w k (marked t x y)) 0) ≡ some 64 (λ j. onPair t (getD (tabulate w (λ i. (f i, g i))) (k * 64 + j) zeros))
+  word-marked : not (eqb (below w k (marked t x y)) 0) ≡ some 64 (λ j. onPair t (getD (tabulate w (λ i. (f i, g i))) (k * 64 + j) zeros))
   word-marked =
       nonzero 64 (below w k (marked t x y)) (rw packed-hits (pack-lt 64 (λ j. cond (hit j) 1 0) (λ j _. digit-lt (hit j))))
       ∙ gather-cong _||_ false 64 (λ j. eqb (bitAt (below w k (marked t x y)) j) 1) hit mark
