@@ -1,4 +1,4 @@
-//! The exports of `ffi`, `ffi_answers`, `ffi_words` and `ffi_literal`, as C sees them: a slice is a pointer and a length, a bit its code, a
+//! The exports of all crates `ffi..` but those of the store and the run, as C sees them: a slice is a pointer and a length, a bit its code, a
 //! refusal its number (0: done). Nothing holds these declarations to the crates but the tests: they stand in their order, with their names,
 //! and tests/shell/c_header.sh compares them with the exports and with include/vowherunga.h. The exports of `ffi_store` and `ffi_run` stand
 //! in [`store`]. Public for the tests alone, which hand over what the binding's types rule out.
