@@ -3,9 +3,9 @@
 set -u
 export LC_ALL=C
 
-# spoil PATTERN EDIT..: the first line of the two tables with that pattern, once with each edit of sed
+# spoil PATTERN EDIT..: the first line of the tables of a kind with that pattern, once with each edit of sed
 spoil() {
-    line=$(sed -n "/$1/{p;q;}" "worked/$kind" "answers/$kind")
+    line=$(sed -n "/$1/{p;q;}" $tables)
     [ -n "$line" ] || { printf 'no line has %s\n' "$1" && exit 1; }
     shift
     for edit; do
@@ -101,14 +101,30 @@ answer_bits() {
     spoil '^!3 = casez_eq 000 3:1:1:' 's/!3\(.*\):1:1:/!2\1:66:1:/' 's/!3\(.*\):1:1:/!2\1:1:66:/'
 }
 
+# the bit, the rule and the place of each rule; a decision that is refused has neither rule nor place
+decisions() {
+    for call in decide_equal decide_wildcard; do
+        spoil "^0 = $call .* 1 1$" 's/^0/1/' 's/^0/x/' 's/1 1$/2 1/' 's/1 1$/257 1/' 's/1$/0/' 's/1$/4294967297/' 's/ 1$//' 's/ 1 1$//'
+        spoil "^0 = $call .* 1 69$" 's/1 69$/2 69/' 's/69$/5/' 's/69$/3/'
+        spoil "^x = $call .* 2 1$" 's/^x/z/' 's/^x/0/' 's/2 1$/1 1/' 's/1$/0/'
+        spoil "^1 = $call .* 3 0$" 's/^1/0/' 's/^1/z/' 's/3 0$/4 0/' 's/0$/1/' 's/^/!/'
+        refusal $call
+    done
+    spoil '^0 = decide_equal r' 's/^0/1/' 's/4 0$/1 0/' 's/4 0$/3 0/' 's/0$/1/'
+    spoil '^1 = decide_wildcard xx zx' 's/decide_wildcard/decide_equal/' 's/decide_wildcard/decide/'
+    spoil '^x = decide_equal z110 1x10' 's/decide_equal/decide_wildcard/'
+    spoil '^!4 = decide_equal 000 ' 's/!4\(.*\) f0:1:1:/!2\1 3:66:1:/' 's/!4\(.*\) f0:1:1:/!2\1 3:1:66:/'
+}
+
 # work: the program on the tables that stand here
 work() { "$BIN/worked_cases" >said || exit 1; }
 
 data=$ROOT/crates/worked_cases/data
-for kind in bits constructors vectors answer_bits; do
+for kind in bits constructors vectors answer_bits decisions; do
+    tables=$(cd "$data" && find worked answers -name "$kind") || exit 1
     cp -R "$data"/* . && : >spoiled || exit 1
     $kind
-    for table in worked/$kind answers/$kind; do
+    for table in $tables; do
         cp -R "$data"/* . && cat spoiled >>"$table" && work || exit 1
         sed -n 's/^differs: //p' said | diff spoiled - || exit 1
         grep -qx "$table: $(wc -l <"$data/$table") agree" said || exit 1

@@ -1,12 +1,13 @@
-// When the answer that a line of a table tells is what a call gave: a field of a line as it was read, compared with a bit, a vector's
-// header or planes.
+// When the answer that a line of a table tells is what a call gave: a field of a line as it was read, compared with a bit, a decision, a
+// vector's header or planes.
 use abi::BitResult;
+use abi::DecisionResult;
 use abi::HeaderResult;
 use value::Header;
 use words::Word;
 ghost use mathlib.Core.Path.{_≡_};
 ghost use lib.ListN.{getD};
-ghost use Rattle.agreement.specs.Answers.{answered, sameCode, sameHeader};
+ghost use Rattle.agreement.specs.Answers.{answered, sameCode, sameDecision, sameHeader};
 ghost use Rattle.agreement.specs.Holds.{holdsFrom, sameWords};
 
 // A field of a line, read in each way that its text can be meant.
@@ -53,6 +54,25 @@ pub fn is_bit(f: Field, r: BitResult) -> bool
     ensures { λ is. ⌜ is ≡ answered f (r .refusal) (sameCode (f .word) (r .bit)) ⌝ }
 {
     answers(f, r.refusal, same_code(f.word, r.bit))
+}
+
+fn same_decision(w: Word, rule: u64, place: u64, r: DecisionResult) -> bool
+    ensures { λ same. ⌜ same ≡ sameDecision w rule place r ⌝ }
+{
+    if rule != r.rule as u64 {
+        return false;
+    }
+    if place != r.place as u64 {
+        return false;
+    }
+    same_code(w, r.bit)
+}
+
+// Whether a line's answer, rule and place are those of the decision that a call gave.
+pub fn is_decision(f: Field, rule: u64, place: u64, r: DecisionResult) -> bool
+    ensures { λ is. ⌜ is ≡ answered f (r .refusal) (sameDecision (f .word) rule place r) ⌝ }
+{
+    answers(f, r.refusal, same_decision(f.word, rule, place, r))
 }
 
 fn same_header(h: Header, r: HeaderResult) -> bool

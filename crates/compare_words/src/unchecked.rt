@@ -145,8 +145,8 @@ fn marks_at(
 }
 
 // Scans two operands whose fills are settled, each read by its extent, at the width. The words are scanned from the first that was not
-// passed over, the bits of a word's mismatches from the lowest, and the scan is left at the first mismatch. All places that leave the answer
-// open go into `doubt`, which is enough for the bit; those of the first word that has one, word `at`, are `first`.
+// passed over, the bits of a word's mismatches from the lowest, and the scan is left at the first mismatch. All places that leave the
+// answer open go into `doubt`, which is enough for the bit; those of the first word that has one, word `at`, are `first`.
 pub fn scan_extents(
     op: Comparison,
     a: Extent,

@@ -17,7 +17,7 @@ use replay::unchecked::are_left;
 use replay::unchecked::plain;
 
 // A field that is a number.
-fn number(line: &[u8], k: usize) -> u64 {
+pub(crate) fn number(line: &[u8], k: usize) -> u64 {
     let f = plain(line, k);
     f.number
 }

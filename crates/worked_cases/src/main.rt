@@ -5,10 +5,11 @@
 //
 //     cargo run --offline --manifest-path rust/Cargo.toml --features reference --bin answers bits >crates/worked_cases/data/answers/bits
 //
-// makes the first of these, and so the others: constructors, vectors, answer_bits.
+// makes the first of these, and so the others: constructors, vectors, answer_bits. Decisions have none: the reference tells no rule.
 mod answer_bits;
 mod bits;
 mod constructors;
+mod decisions;
 mod vectors;
 
 use agreement::Field;
@@ -35,6 +36,9 @@ fn has_answer(call: usize, line: &[u8], a: Field, value: &mut [u64], unknown: &m
     }
     if call < 26 {
         return vectors::results(call, line, a.header, value, unknown);
+    }
+    if call < 28 {
+        return decisions::decides(call, line, a, value, unknown);
     }
     false
 }
@@ -86,4 +90,5 @@ fn main() {
     work_both(b"worked/constructors", b"answers/constructors");
     work_both(b"worked/vectors", b"answers/vectors");
     work_both(b"worked/answer_bits", b"answers/answer_bits");
+    work(b"worked/decisions", true);
 }
