@@ -111,7 +111,7 @@ pub mod reduce {
     pub use entries::logic_or;
 }
 
-// Equality of two operands, in one bit.
+// Equality of two operands, in one bit, and which rule decided.
 pub mod compare {
     // 0 if two known bits differ, else x on any unknown bit, else 1; where either operand is a real, both count as reals.
     pub use entries::is_equal;
