@@ -147,7 +147,7 @@ extern "C" {
     ) -> HeaderResult;
 }
 
-// ffi_answers/src/lib.rt
+// ffi_answers/src/lib.rt, and the decisions of ffi_decide, ffi_decide_vectors and ffi_decide_wildcard
 alike! {
     BitOfOne: vowherunga_reduce_and, vowherunga_reduce_or, vowherunga_reduce_xor -> BitResult: (
         a: Header,
