@@ -1,4 +1,5 @@
-//! Finds the proved static libraries and, with the feature `reference`, the reference's source, which is no part of this repository.
+//! Finds the proved static libraries and, with the feature `reference`, one more of them and the reference's source, which is no part of this
+//! repository.
 //!
 //! - `VOWHERUNGA_STATICLIB`: the folder of libffi.a and the others, in place of target/staticlib at the repository's root.
 //! - `REFERENCE_VALUE_RS`: the reference's src/value.rs, in place of ../shared/docs/src/src/value.rs from there.
@@ -26,10 +27,13 @@ const LIBRARIES: [&str; 9] = [
     "ffi_run",
 ];
 
-fn link_libraries() {
+/// The crate whose exports only tests and benchmark call, by the feature `reference`.
+const FOR_COMPARISONS: &str = "ffi_bit_by_bit";
+
+fn link_libraries(has_reference: bool) {
     let folder = place("VOWHERUNGA_STATICLIB", "../target/staticlib");
     println!("cargo:rustc-link-search=native={}", folder.display());
-    for library in LIBRARIES {
+    for library in LIBRARIES.into_iter().chain(has_reference.then_some(FOR_COMPARISONS)) {
         let archive = folder.join(format!("lib{library}.a"));
         println!("cargo:rerun-if-changed={}", archive.display());
         assert!(archive.exists(), "no {}: `rt staticlib {library}` makes it", archive.display());
@@ -50,8 +54,9 @@ fn name_reference() {
 }
 
 fn main() {
-    link_libraries();
-    if env::var_os("CARGO_FEATURE_REFERENCE").is_some() {
+    let has_reference = env::var_os("CARGO_FEATURE_REFERENCE").is_some();
+    link_libraries(has_reference);
+    if has_reference {
         name_reference();
     }
 }

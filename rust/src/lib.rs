@@ -51,7 +51,7 @@
 //! whole list of steps on them can be run from its text ([`steps::run`]).
 //!
 //! The feature `reference` adds the Rust program whose behaviour the library keeps but for what was requested since, for comparisons; it needs
-//! that program's source.
+//! that program's source and one static library more.
 mod bit;
 pub mod bitwise;
 pub mod compare;

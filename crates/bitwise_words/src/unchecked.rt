@@ -4,6 +4,7 @@ use extension::Extent;
 use extension::unchecked::extent;
 use lanes::Bitwise;
 use lanes::lanes;
+use lanes::not_lanes;
 use value::Header;
 use words::Word;
 use words::unchecked::kept;
@@ -17,7 +18,7 @@ ghost use Rattle.words.specs.Vector.{FilledTo};
 ghost use Rattle.words.specs.Planes.{wordCount, fromPlanes, lentBy, planesOf, Plane};
 ghost use Rattle.value.specs.Checks.{vector};
 ghost use Rattle.extension.specs.Extension.{Covers};
-ghost use Rattle.bitwise_words.specs.Joined.{joinedWord, joinedOver, joined, inverted};
+ghost use Rattle.bitwise_words.specs.Joined.{joinedWord, joinedOver, joined, inverted, invertedPlanes};
 
 // One operator on the first n words.
 fn join_words(
@@ -148,20 +149,31 @@ pub fn join_planes(
     join_extents(op, x, av, au, y, bv, bu, width, ov, ou)
 }
 
-// Not of a vector: every word, and the last one cut off at the width.
+// Not of a vector: every word, the last one cut off at the width. By words, and by bits.
 pub fn not_planes(width: u32, av: &[u64], au: &[u64], ov: &mut [u64], ou: &mut [u64])
     requires { ⌜ Plane width (now av) × Plane width (now au) ⌝ }
     requires { ⌜ (length (now ov) ≡ wordCount width) × (length (now ou) ≡ wordCount width) ⌝ }
+    ensures { λ _. ⌜ lentBy (ov .exit) (ou .exit) ≡ invertedPlanes width (lentBy (av .entry) (au .entry)) ⌝ }
     ensures { λ _. ⌜ lentBy (ov .exit) (ou .exit)
         ≡ planesOf (inverted (fromPlanes width (now (av .entry)) (now (au .entry)))) ⌝ }
 {
+    let last = ov.len() - 1;
     let mut k = 0;
-    while k < ov.len() {
-        let u = au[k];
-        ov[k] = !(av[k] | u);
-        ou[k] = u;
+    while k < last {
+        let a = Word {
+            value: av[k],
+            unknown: au[k],
+        };
+        let r = not_lanes(a, 0xffff_ffff_ffff_ffff);
+        ov[k] = r.value;
+        ou[k] = r.unknown;
         k += 1;
     }
-    let last = k - 1;
-    ov[last] = ov[last] & ones(kept(width, last));
+    let a = Word {
+        value: av[last],
+        unknown: au[last],
+    };
+    let r = not_lanes(a, ones(kept(width, last)));
+    ov[last] = r.value;
+    ou[last] = r.unknown;
 }

@@ -34,9 +34,9 @@ use Rattle.words.proofs.Planes.{getD-tabulate, getD-tabulate-out, length-tabula
 use Rattle.words.proofs.Lanes.{Lane, word, gives, lane}
 use Rattle.words.proofs.Extend.{cut, word-bit}
 use Rattle.reduce_words.specs.Fold.{anyOf}
-use Rattle.reduce_words.proofs.Scanned.{some}
-use Rattle.reduce_words.proofs.Gather.{gather-cong}
-use Rattle.reduce_words.proofs.Places.{any-some, nonzero, inside}
+use Rattle.reduce_words.proofs.Gather.{some, gather-cong}
+use Rattle.reduce_words.proofs.Marks.{nonzero}
+use Rattle.reduce_words.proofs.Places.{any-some, inside}
 use Rattle.extension.specs.declared.Extent.{Extent}
 use Rattle.extension.specs.Extension.{extentAt}
 use Rattle.compare_words.specs.declared.Comparison.{Comparison}

@@ -16,7 +16,7 @@ use ops::Question;
 use plan::PlannedStep;
 use reduce_words::Truth;
 use reduce_words::unchecked::and_bits;
-use reduce_words::unchecked::contains;
+use reduce_words::unchecked::truth;
 use reduce_words::unchecked::xor_bits;
 use value::Header;
 use words::Word;
@@ -74,17 +74,17 @@ fn answer(q: Question, a: Header, av: &[u64], au: &[u64], b: Header, bv: &[u64],
 {
     match q {
         Question::ReduceAnd => filled(and_bits(a.width, av, au)),
-        Question::ReduceOr => truth_word(contains(a.width, av, au, true)),
+        Question::ReduceOr => truth_word(truth(a.width, av, au)),
         Question::ReduceXor => filled(xor_bits(a.width, av, au)),
         Question::Compare(op) => filled(compare(op, a, av, au, b, bv, bu)),
         Question::LogicAnd => {
-            let x = truth_word(contains(a.width, av, au, true));
-            let y = truth_word(contains(b.width, bv, bu, true));
+            let x = truth_word(truth(a.width, av, au));
+            let y = truth_word(truth(b.width, bv, bu));
             and_lanes(x, y)
         }
         Question::LogicOr => {
-            let x = truth_word(contains(a.width, av, au, true));
-            let y = truth_word(contains(b.width, bv, bu, true));
+            let x = truth_word(truth(a.width, av, au));
+            let y = truth_word(truth(b.width, bv, bu));
             or_lanes(x, y)
         }
     }
@@ -129,7 +129,7 @@ fn work(
             ov[0] = x.value % 2;
             ou[0] = x.unknown % 2;
         }
-        Family::Select => match contains(a.width, av, au, true) {
+        Family::Select => match truth(a.width, av, au) {
             Truth::True => {
                 copy_words(bv, ov);
                 copy_words(bu, ou)

@@ -4,7 +4,7 @@
 --     not-word         those of not
 --     whole-word       the lanes of two words that hold an operand's bits are a word of the result
 --     rest-word        the same for any word, cut off at the width
---     one-whole, one-cut     the same for a rule of one operand
+--     one-cut          the same for a rule of one operand
 use mathlib.Core.Path.{_≡_, refl, sym, ap, ap₂, _∙_}
 use mathlib.Core.List.{List}
 use Prim.Native.Nat.{ℕ, _+_, _-_, _*_, _^_, _≤_, _<_, min}
@@ -136,12 +136,9 @@ module _ (r : LogicBit → LogicBit → LogicBit) (f g : ℕ → LogicBit) (w k 
 
 -- a rule of one operand, word by word
 module _ (r : LogicBit → LogicBit) (f : ℕ → LogicBit) (w k : ℕ) (a : Word) (ha : (j : ℕ) → j < 64 → bitOf a j ≡ f (k * 64 + j)) where
-  pub one-word : laneOne r a ≡ wordAt (λ i. r (f i)) k
+  one-word : laneOne r a ≡ wordAt (λ i. r (f i)) k
   unfolding laneOne
   one-word = ap₂ wordBy (pack-cong 64 _ _ (λ j l. ap valueDigit (ap r (ha j l)))) (pack-cong 64 _ _ (λ j l. ap unknownDigit (ap r (ha j l))))
-
-  pub one-whole : k * 64 + 64 ≤ w → laneOne r a ≡ wordAt (at (tabulate w (λ i. r (f i)))) k
-  one-whole h = one-word ∙ ap₂ wordBy (inside-vector valueDigit w k (λ i. r (f i)) h) (inside-vector unknownDigit w k (λ i. r (f i)) h)
 
   pub one-cut : cutWord w k (laneOne r a) ≡ wordAt (at (tabulate w (λ i. r (f i)))) k
   unfolding cutWord

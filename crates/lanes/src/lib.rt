@@ -1,9 +1,9 @@
 // The operators on single words: each of the 64 places by its single-bit rule, in a few word operations. One function for each operator,
-// and the choice among them.
+// and the choice among those of two words.
 use words::Word;
 ghost use mathlib.Core.Path.{_≡_};
 ghost use Rattle.bit.specs.Rules.{andBit, orBit, xorBit, mergeBit};
-ghost use Rattle.lanes.specs.Lanes.{opBit, laneWord};
+ghost use Rattle.lanes.specs.Lanes.{opBit, laneWord, notWord};
 
 // An operator that joins two vectors place by place.
 pub enum Bitwise {
@@ -72,7 +72,19 @@ pub fn merge_lanes(a: Word, b: Word) -> Word
     }
 }
 
-// The choice among the four, for callers that serve every operator with one loop; it holds no formula of its own.
+// Not, at the places where the mask has a one: 0 and 1 exchanged, x where the bit is unknown. The other places are 0.
+pub fn not_lanes(a: Word, mask: u64) -> Word
+    ensures { λ r. ⌜ r ≡ notWord a mask ⌝ }
+{
+    let v = a.value;
+    let u = a.unknown;
+    Word {
+        value: !(v | u) & mask,
+        unknown: u & mask,
+    }
+}
+
+// The choice among the four that join, for callers that serve every operator with one loop; it holds no formula of its own.
 pub fn lanes(op: Bitwise, a: Word, b: Word) -> Word
     ensures { λ r. ⌜ r ≡ laneWord (opBit op) a b ⌝ }
 {

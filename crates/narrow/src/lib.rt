@@ -9,8 +9,9 @@ use words::unchecked::least;
 use words::unchecked::ones;
 ghost use mathlib.Core.Path.{_≡_};
 ghost use Prim.Native.Nat.{min};
-ghost use Rattle.words.specs.Planes.{vectorOf, planesOf};
-ghost use Rattle.reduce_words.specs.Fold.{reduceAnd, reduceOr, reduceXor, truthOf};
+ghost use Rattle.words.specs.Planes.{vectorOf, planesOf, widthMask};
+ghost use Rattle.lanes.specs.Lanes.{notWord};
+ghost use Rattle.reduce_words.specs.Fold.{reduceAnd, reduceOr, reduceXor, truthOf, truthByWords};
 ghost use Rattle.bitwise_words.specs.Joined.{joined, inverted};
 ghost use Rattle.compare_words.specs.Compared.{compared};
 ghost use Rattle.narrow.specs.Narrow.{single, plain64};
@@ -22,17 +23,12 @@ pub fn join(op: Bitwise, a: Word, b: Word) -> Word
     lanes::lanes(op, a, b)
 }
 
-// Not of the bits below the width, which counts as 64 where it is larger; the other bits of the result are 0.
+// Not of the bits below the width, which counts as 64 where it is larger; the other bits of the result are 0. By words, and by bits.
 pub fn not(width: u32, a: Word) -> Word
+    ensures { λ r. ⌜ r ≡ notWord a (widthMask width 0) ⌝ }
     ensures { λ r. ⌜ single r ≡ planesOf (inverted (vectorOf (min 64 width) (single a))) ⌝ }
 {
-    let v = a.value;
-    let u = a.unknown;
-    let m = ones(least(64, width as usize));
-    Word {
-        value: !(v | u) & m,
-        unknown: u & m,
-    }
+    lanes::not_lanes(a, ones(least(64, width as usize)))
 }
 
 // Of the bits below the width, which counts as 64 where it is larger: 0 on any known 0, else x on any unknown bit, else 1.
@@ -52,8 +48,9 @@ pub fn reduce_and(width: u32, a: Word) -> LogicBit
     LogicBit::One
 }
 
-// True on a known 1, else unknown on an unknown bit, else false.
+// True on a known 1, else unknown on an unknown bit, else false. By words, and by bits.
 pub fn truth(a: Word) -> Truth
+    ensures { λ r. ⌜ r ≡ truthByWords (single a) ⌝ }
     ensures { λ r. ⌜ r ≡ truthOf (vectorOf 64 (single a)) ⌝ }
 {
     let v = a.value;

@@ -1,10 +1,12 @@
 -- What is put together from the places 0, .., n - 1 by an operation that has a neutral element.
+--     gather, some   by any operation; by or: some place passes a test
 --     gather-cong    by what stands at each place
 --     gather-add     the places below m, then the n from there on
 --     gather-word    the places below word k, then the 64 of word k
 --     of-list        a list, place by place; a member that adds nothing stands beyond its end
 --     of-digits      a number, digit by digit
 use mathlib.Core.Path.{_≡_, refl, sym, ap, ap₂, _∙_}
+use mathlib.Core.Bool.{Bool, false, _||_}
 use mathlib.Core.List.{List, [], _∷_}
 use Prim.Native.Nat.{ℕ, zero, suc, _+_, _*_, _/_, _%_, _^_, _≤_, _<_, suc-le-suc}
 use native.Mathlib.Nat.{not-suc-le-zero, le-of-suc-le-suc, zero-lt-suc, zero-add, suc-add}
@@ -15,7 +17,16 @@ use lib.Pow.{shr-lt}
 use lib.ListN.{length, getD}
 use Rattle.words.specs.Vector.{bitAt}
 use Rattle.words.proofs.Digits.{bit-zero, bit-suc}
-use Rattle.reduce_words.proofs.Scanned.{gather}
+
+module _ {A : Type 0} (op : A → A → A) (e : A) where
+  -- f 0, .., f (n - 1) put together; e where n is 0
+  unfoldable pub gather : ℕ → (ℕ → A) → A
+  gather zero f = e
+  gather (suc n) f = op (f 0) (gather n (λ i. f (suc i)))
+
+-- some place below n passes the test
+abbrev pub some : ℕ → (ℕ → Bool) → Bool
+some = gather _||_ false
 
 module _ {A : Type 0} (op : A → A → A) (e : A) where
   pub gather-cong : (n : ℕ) (f g : ℕ → A) → ((j : ℕ) → j < n → f j ≡ g j) → gather op e n f ≡ gather op e n g

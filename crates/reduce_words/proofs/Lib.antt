@@ -1,7 +1,7 @@
-pub mod Scanned
 pub mod Gather
+pub mod Marks
 pub mod Places
+pub mod ByWords
 pub mod Scan
-pub mod Known
 pub mod Parity
 pub mod Folds

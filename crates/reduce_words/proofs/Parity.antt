@@ -24,8 +24,7 @@ use Rattle.words.specs.Planes.{stored, fromPlanes}
 use Rattle.words.proofs.Digits.{bit-lt, bit-of-zero, differ-lt, lt-or-ge}
 use Rattle.words.proofs.Planes.{length-tabulate, plane-bit}
 use Rattle.reduce_words.specs.Fold.{countOf, isUnknown, reduceXor}
-use Rattle.reduce_words.proofs.Scanned.{gather, some}
-use Rattle.reduce_words.proofs.Gather.{gather-cong, gather-word, of-list, of-digits}
+use Rattle.reduce_words.proofs.Gather.{gather, some, gather-cong, gather-word, of-list, of-digits}
 use Rattle.reduce_words.proofs.Places.{some-word, any-some, any-found, WordPlanes, unknownAt, inside, outside, unknown-word}
 
 -- ---- the ones of a word
@@ -96,7 +95,7 @@ module _ (w : ℕ) (v u : List ℕ) where
   module _ (p : WordPlanes w v u) where
     ones-word : (k : ℕ) → getD u k 0 ≡ 0 → ones (getD v k 0) ≡ total 64 (λ j. oneAt (k * 64 + j))
     ones-word k e =
-        ones-digits 64 (getD v k 0) (p .value-words k)
+        ones-digits 64 (getD v k 0) (p .words .value-words k)
         ∙ gather-cong _+_ 0 64 (bitAt (getD v k 0)) (λ j. oneAt (k * 64 + j))
         (λ j l. ⊎-elim
         (λ m. one-stored (bitAt (getD v k 0) j) (bit-lt (getD v k 0) j)
@@ -108,7 +107,7 @@ module _ (w : ℕ) (v u : List ℕ) where
       pub another : sum < 2 ^ 64 → getD u k 0 ≡ 0 → Summed (bitXor sum (getD v k 0)) (k + 1)
       another l e = record {
         known = some-word k (unknownAt bits) ∙ ap₂ _||_ (s .known) (sym (unknown-word w v u p k) ∙ ap (λ (y : ℕ). not (eqb y 0)) e);
-        odd = xor-odd 64 sum (getD v k 0) l (p .value-words k) ∙ omega (arith, s .odd, ones-word k e, gather-word _+_ 0 zero-add add-assoc k oneAt);
+        odd = xor-odd 64 sum (getD v k 0) l (p .words .value-words k) ∙ omega (arith, s .odd, ones-word k e, gather-word _+_ 0 zero-add add-assoc k oneAt);
       }
 
       pub unknown-found : (getD u k 0 ≡ 0 → ⊥) → X ≡ reduceXor bits

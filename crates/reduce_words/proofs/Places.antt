@@ -1,28 +1,30 @@
 -- A vector by its places, and by the words of its planes.
 --     any-some, any-found     some member passes a test where some place does; one that fails the test stands beyond the end
 --     any-tabulate            the same for a list that is told place by place
---     nonzero, or-nonzero     a word is not 0 where some digit is 1; two words, one over the other
 --     inside, outside         a place below the width is two digits of word k; beyond the width the vector is continued
---     unknown-word            word k of the unknown plane tells whether a bit of word k is unknown
+--     unknown-word, one-word, zero-word    the numbers of word k tell whether a bit of it is unknown, a known 1 or a known 0
 use mathlib.Core.Path.{_≡_, refl, sym, ap, ap₂, _∙_}
 use mathlib.Core.Logic.{⊎-elim}
 use mathlib.Core.Bool.{Bool, true, false, not, _||_, or-assoc}
 use mathlib.Core.List.{List}
-use Prim.Native.Nat.{ℕ, zero, suc, _+_, _*_, _/_, _%_, _^_, _≤_, _<_}
+use Prim.Native.Nat.{ℕ, zero, suc, _+_, _-_, _*_, _≤_, _<_, min}
+use native.Mathlib.Nat.{lt-of-le-of-lt}
 use native.Mathlib.Omega.{arith}
-use borrow.Author.Tests.{eq-eqb, ne-eqb, eqb-true, eqb-false}
-use lib.Dec.{eqb}
+use lib.Dec.{T, eqb}
 use lib.ListN.{length, getD}
-use lib.Bits.{bitOr, or-add-and, and-le-l, and-le-r}
+use lib.Bits.{bitAnd, bitOr, and-mask, and-le-l}
 use Rattle.bit.specs.declared.LogicBit.{LogicBit}
-use Rattle.bit.specs.declared.LogicBit.the-variants.{Zero}
+use Rattle.bit.specs.declared.LogicBit.the-variants.{Zero, One}
+use Rattle.bit.specs.Rules.{same}
+use Rattle.words.specs.declared.Word.{Word}
 use Rattle.words.specs.Vector.{at, bitAt, tabulate}
-use Rattle.words.specs.Planes.{stored, planeBit, fromPlanes, Plane}
-use Rattle.words.proofs.Digits.{bit-lt, lt-or-ge}
-use Rattle.words.proofs.Planes.{getD-tabulate, getD-tabulate-out, plane-bit}
+use Rattle.words.specs.Planes.{stored, bitOf, planeBit, fromPlanes, lent, wordIn, complement, widthMask, Plane, Words64}
+use Rattle.words.proofs.Digits.{bit-mod, bit-mod-above, lt-or-ge}
+use Rattle.words.proofs.Planes.{getD-tabulate, getD-tabulate-out, plane-bit, operand}
+use Rattle.words.proofs.Lanes.{Lane, word, gives}
 use Rattle.reduce_words.specs.Fold.{anyOf, isUnknown}
-use Rattle.reduce_words.proofs.Scanned.{gather, some}
-use Rattle.reduce_words.proofs.Gather.{gather-cong, gather-add, gather-word, of-list, of-digits}
+use Rattle.reduce_words.proofs.Gather.{gather, some, gather-cong, gather-add, gather-word, of-list}
+use Rattle.reduce_words.proofs.Marks.{nonzero, mark, marks-lt, marks-bit, some-marked}
 
 pub some-word : (k : ℕ) (f : ℕ → Bool) → some ((k + 1) * 64) f ≡ (some (k * 64) f || some 64 (λ j. f (k * 64 + j)))
 some-word = gather-word _||_ false (λ b. refl) or-assoc
@@ -43,48 +45,13 @@ unfolding tabulate gather
 any-tabulate p zero f = refl
 any-tabulate p (suc n) f = ap (λ (z : Bool). p (f 0) || z) (any-tabulate p n (λ i. f (suc i)))
 
--- ---- words
-
-nonzero-step : (x : ℕ) → not (eqb x 0) ≡ (eqb (x % 2) 1 || not (eqb (x / 2) 0))
-nonzero-step x = go (eqb (x % 2) 1) refl (eqb (x / 2) 0) refl
-  where
-    go : (a : Bool) → eqb (x % 2) 1 ≡ a → (b : Bool) → eqb (x / 2) 0 ≡ b → not (eqb x 0) ≡ (a || not b)
-    go true p b q = let h = eqb-true (x % 2) 1 p in ap not (ne-eqb x 0 (λ z. omega arith))
-    go false p true q =
-        let h = eqb-false (x % 2) 1 p in
-        let k = eqb-true (x / 2) 0 q in
-        ap not (eq-eqb x 0 (omega arith))
-    go false p false q = let k = eqb-false (x / 2) 0 q in ap not (ne-eqb x 0 (λ z. omega arith))
-
-pub nonzero : (n x : ℕ) → x < 2 ^ n → not (eqb x 0) ≡ some n (λ j. eqb (bitAt x j) 1)
-nonzero = of-digits _||_ false (λ x. not (eqb x 0)) (λ d. eqb d 1) refl nonzero-step
-
-pub or-nonzero : (x y : ℕ) → not (eqb (bitOr x y) 0) ≡ (not (eqb x 0) || not (eqb y 0))
-or-nonzero x y = go (eqb x 0) refl (eqb y 0) refl
-  where
-    go : (a : Bool) → eqb x 0 ≡ a → (b : Bool) → eqb y 0 ≡ b → not (eqb (bitOr x y) 0) ≡ (not a || not b)
-    go true p true q =
-        let h = eqb-true x 0 p in
-        let k = eqb-true y 0 q in
-        ap not (eq-eqb (bitOr x y) 0 (omega (arith, or-add-and x y)))
-    go false p b q = let h = eqb-false x 0 p in ap not (ne-eqb (bitOr x y) 0 (λ z. omega (arith, or-add-and x y, and-le-r x y)))
-    go true p false q = let k = eqb-false y 0 q in ap not (ne-eqb (bitOr x y) 0 (λ z. omega (arith, or-add-and x y, and-le-l x y)))
-
 -- ---- planes
-
-unknown-stored : (v u : ℕ) → u < 2 → eqb u 1 ≡ isUnknown (stored v u)
-unknown-stored zero zero l = refl
-unknown-stored (suc v) zero l = refl
-unknown-stored zero (suc zero) l = refl
-unknown-stored (suc v) (suc zero) l = refl
-unknown-stored v (suc (suc u)) l = absurd (omega arith)
 
 -- the planes of a vector, whose words have 64 digits
 pub record WordPlanes (w : ℕ) (v u : List ℕ) : Type 0 where
   pub value-plane : Plane w v
   pub unknown-plane : Plane w u
-  pub value-words : (k : ℕ) → getD v k 0 < 2 ^ 64
-  pub unknown-words : (k : ℕ) → getD u k 0 < 2 ^ 64
+  pub words : Words64 (lent v u)
 
 abbrev pub unknownAt : List LogicBit → ℕ → Bool
 unknownAt bs i = isUnknown (at bs i)
@@ -98,11 +65,35 @@ module _ (w : ℕ) (v u : List ℕ) where
   pub outside : (e : LogicBit) (i : ℕ) → w ≤ i → getD (fromPlanes w v u) i e ≡ e
   outside e i m = getD-tabulate-out w (λ i. stored (planeBit v i) (planeBit u i)) i e m
 
-  pub unknown-word : WordPlanes w v u → (k : ℕ) → not (eqb (getD u k 0) 0) ≡ some 64 (λ j. unknownAt (fromPlanes w v u) (k * 64 + j))
-  unknown-word p k =
-      nonzero 64 (getD u k 0) (p .unknown-words k)
-      ∙ gather-cong _||_ false 64 (λ j. eqb (bitAt (getD u k 0) j) 1) (λ j. unknownAt (fromPlanes w v u) (k * 64 + j))
-      (λ j l. ⊎-elim
-      (λ m. unknown-stored (bitAt (getD v k 0) j) (bitAt (getD u k 0) j) (bit-lt (getD u k 0) j) ∙ ap isUnknown (sym (inside Zero k j l m)))
-      (λ m. ap (λ (x : ℕ). eqb x 1) (plane-bit u k j l ∙ p .unknown-plane .clear (k * 64 + j) m) ∙ sym (ap isUnknown (outside Zero (k * 64 + j) m)))
-      (lt-or-ge (k * 64 + j) w))
+  module _ (p : WordPlanes w v u) where
+    -- a test that a lane formula gives, of the bits of word k
+    some-tested : (t : LogicBit → Bool) (e : Lane) → T (gives e (λ a b. mark (t a))) → (k : ℕ)
+        → not (eqb (word e (getD v k 0) (getD u k 0) 0 0) 0) ≡ some 64 (λ j. t (at (fromPlanes w v u) (k * 64 + j)))
+    some-tested t e g k =
+        some-marked t e g (wordIn (lent v u) k) (p .words .value-words k) (p .words .unknown-words k)
+        ∙ gather-cong _||_ false 64 (λ j. t (bitOf (wordIn (lent v u) k) j)) (λ j. t (at (fromPlanes w v u) (k * 64 + j)))
+        (λ j l. ap t (operand w v u (p .value-plane) (p .unknown-plane) k j l))
+
+    pub unknown-word : (k : ℕ) → not (eqb (getD u k 0) 0) ≡ some 64 (λ j. unknownAt (fromPlanes w v u) (k * 64 + j))
+    unknown-word = some-tested isUnknown Lane.au tt
+
+    pub one-word : (k : ℕ) → not (eqb (bitAnd (getD v k 0) (complement (getD u k 0))) 0) ≡ some 64 (λ j. same One (at (fromPlanes w v u) (k * 64 + j)))
+    one-word = some-tested (same One) (Lane.and Lane.av (Lane.neg Lane.au)) tt
+
+    -- beyond the width the vector is continued by 1
+    pub zero-word : (k : ℕ)
+        → not (eqb (bitAnd (complement (bitOr (getD v k 0) (getD u k 0))) (widthMask w k)) 0) ≡ some 64 (λ j. same Zero (getD (fromPlanes w v u) (k * 64 + j) One))
+    zero-word k =
+        let x : Word = wordIn (lent v u) k in
+        let n : ℕ = min 64 (w - k * 64) in
+        let marks : ℕ = complement (bitOr (x .value) (x .unknown)) in
+        let e : Lane = Lane.neg (Lane.or Lane.av Lane.au) in
+        let hv = p .words .value-words k in
+        let hu = p .words .unknown-words k in
+        nonzero 64 (bitAnd marks (widthMask w k)) (lt-of-le-of-lt (and-le-l marks (widthMask w k)) (marks-lt (same Zero) e tt x hv hu))
+        ∙ gather-cong _||_ false 64 (λ j. eqb (bitAt (bitAnd marks (widthMask w k)) j) 1) (λ j. same Zero (getD (fromPlanes w v u) (k * 64 + j) One))
+        (λ j l. ap (λ (y : ℕ). eqb (bitAt y j) 1) (and-mask marks n)
+        ∙ ⊎-elim
+        (λ b. ap (λ (d : ℕ). eqb d 1) (bit-mod marks n j b) ∙ marks-bit (same Zero) e tt x hv hu j l ∙ ap (same Zero) (sym (inside One k j l (omega arith))))
+        (λ b. ap (λ (d : ℕ). eqb d 1) (bit-mod-above marks n j b) ∙ sym (ap (same Zero) (outside One (k * 64 + j) (omega arith))))
+        (lt-or-ge j n))

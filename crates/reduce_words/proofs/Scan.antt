@@ -1,42 +1,44 @@
--- A scan for a member of a list that passes a test, 64 places at a time. Beyond its end the list is continued by members that fail the tests.
---     start, more, found         no word yet; one word more; one that passes p is found
---     none-left, open-told       what is known once all words are scanned
-use mathlib.Core.Path.{_≡_, refl, sym, ap, ap₂, _∙_}
-use mathlib.Core.Bool.{Bool, true, false, not, _||_}
-use mathlib.Core.List.{List}
-use Prim.Native.Nat.{ℕ, _+_, _*_, _≤_}
-use borrow.Author.Tests.{ne-eqb}
-use lib.Dec.{eqb}
-use lib.ListN.{length, getD}
+-- A scan of two lists of words: whether some word of the first is not 0; if none is, whether some word of the second is.
+--     left               what is left to be told behind k words, where `seen` is 0 if those of the second list were
+--     found, more, end   a word of the first list is not 0; one word more; no word is left
+use mathlib.Core.Path.{_≡_, sym, ap, ap₂, _∙_}
+use mathlib.Core.Bool.{Bool, false, not, _||_, or-assoc, or-false}
+use mathlib.Core.List.{List, _∷_}
+use Prim.Native.Nat.{ℕ, _+_, _≤_, _<_}
+use native.Mathlib.Numerals.{add-one}
+use borrow.Author.Tests.{eq-eqb, ne-eqb}
 use lib.Bits.{bitOr}
-use Rattle.reduce_words.specs.Fold.{anyOf}
-use Rattle.reduce_words.proofs.Scanned.{gather, some, Scanned}
-use Rattle.reduce_words.proofs.Places.{some-word, any-some, any-found, or-nonzero}
+use lib.ListN.{length, getD, drop, drop-of-length-le}
+use lib.Seq.{drop-cons}
+use Rattle.reduce_words.specs.declared.Truth.{Truth}
+use Rattle.reduce_words.specs.declared.Truth.the-variants.{True}
+use Rattle.reduce_words.specs.Fold.{anyOf, notZero}
+use Rattle.reduce_words.proofs.Marks.{or-nonzero}
+use Rattle.reduce_words.proofs.ByWords.{told}
 
-module _ {B : Type 0} (p q : B → Bool) (e d : B) (bs : List B) where
-  abbrev Behind : ℕ → ℕ → Type 0
-  Behind = Scanned p q e d bs
+abbrev behind : ℕ → List ℕ → List ℕ → Truth
+behind seen os us = told (anyOf notZero os) (notZero seen || anyOf notZero us)
 
-  pub start : Behind 0 0
-  unfolding gather
-  start = record { absent = refl; told = refl }
+module _ (os us : List ℕ) where
+  abbrev pub left : ℕ → ℕ → Truth
+  left seen k = behind seen (drop k os) (drop k us)
 
-  module _ (fails : p e ≡ false) (seen k : ℕ) (s : Behind seen k) where
-    pub none-left : length bs ≤ k * 64 → anyOf p bs ≡ false
-    none-left l = any-some p e fails bs (k * 64) l ∙ s .absent
+  module _ (seen k : ℕ) (l : k < length os) (m : k < length us) where
+    heads : left seen k ≡ behind seen (getD os k 0 ∷ drop (k + 1) os) (getD us k 0 ∷ drop (k + 1) us)
+    heads = rw (add-one k) (ap₂ (behind seen) (drop-cons os k 0 l) (drop-cons us k 0 m))
 
-    pub open-told : q d ≡ false → length bs ≤ k * 64 → anyOf q bs ≡ not (eqb seen 0)
-    open-told closed l = any-some q d closed bs (k * 64) l ∙ sym (s .told)
+    pub found : (getD os k 0 ≡ 0 → ⊥) → left seen k ≡ True
+    found z =
+        heads
+        ∙ ap (λ (b : Bool). told (b || anyOf notZero (drop (k + 1) os)) (notZero seen || (notZero (getD us k 0) || anyOf notZero (drop (k + 1) us))))
+        (ap not (ne-eqb _ _ z))
 
-    -- by a word x that is not 0 where one passes p in word k
-    module _ (x : ℕ) (h : not (eqb x 0) ≡ some 64 (λ j. p (getD bs (k * 64 + j) e))) where
-      pub more : x ≡ 0 → (y : ℕ) → not (eqb y 0) ≡ some 64 (λ j. q (getD bs (k * 64 + j) d)) → Behind (bitOr seen y) (k + 1)
-      more z y g = record {
-        absent = some-word k (λ i. p (getD bs i e)) ∙ ap₂ _||_ (s .absent) (sym h ∙ ap (λ (y : ℕ). not (eqb y 0)) z);
-        told = or-nonzero seen y ∙ ap₂ _||_ (s .told) g ∙ sym (some-word k (λ i. q (getD bs i d)));
-      }
+    pub more : getD os k 0 ≡ 0 → left seen k ≡ left (bitOr seen (getD us k 0)) (k + 1)
+    more z =
+        heads
+        ∙ ap₂ (λ (b c : Bool). told (b || anyOf notZero (drop (k + 1) os)) c) (ap not (eq-eqb _ _ z))
+        (sym (or-assoc (notZero seen) (notZero (getD us k 0)) (anyOf notZero (drop (k + 1) us)))
+        ∙ ap (λ (b : Bool). b || anyOf notZero (drop (k + 1) us)) (sym (or-nonzero seen (getD us k 0))))
 
-      pub found : (x ≡ 0 → ⊥) → anyOf p bs ≡ true
-      found z =
-          any-found p e fails bs ((k + 1) * 64)
-          (some-word k (λ i. p (getD bs i e)) ∙ ap₂ _||_ (s .absent) (sym h ∙ ap not (ne-eqb x 0 z)))
+  pub end : (seen k : ℕ) → length os ≤ k → length us ≤ k → (z : Bool) → notZero seen ≡ z → left seen k ≡ told false z
+  end seen k l m z e = ap₂ (behind seen) (drop-of-length-le os l) (drop-of-length-le us m) ∙ ap (told false) (or-false (notZero seen) ∙ e)

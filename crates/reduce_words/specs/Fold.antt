@@ -1,11 +1,16 @@
--- Document 01, "Answer bit": the reductions (IEEE 1800-2017, 11.4.9) and truth (11.4.7), of a vector's bits.
+-- Document 01, "Answer bit": the reductions (IEEE 1800-2017, 11.4.9) and truth (11.4.7), of a vector's bits; document 02, point 4: truth by the words
+-- of its planes.
 use mathlib.Core.Bool.{Bool, true, false, not, _||_, cond}
 use mathlib.Core.List.{List, [], _∷_}
 use Prim.Native.Nat.{ℕ, _+_, _%_}
+use lib.Bits.{bitAnd}
 use lib.Dec.{eqb}
+use lib.ListN.{length, getD}
 use Rattle.bit.specs.declared.LogicBit.{LogicBit}
 use Rattle.bit.specs.declared.LogicBit.the-variants.{Zero, One, X}
 use Rattle.bit.specs.Rules.{same, known}
+use Rattle.words.specs.Vector.{tabulate}
+use Rattle.words.specs.Planes.{Planes, complement}
 use Rattle.reduce_words.specs.declared.Truth.{Truth}
 use Rattle.reduce_words.specs.declared.Truth.the-variants.{False, True, Unknown}
 
@@ -46,6 +51,19 @@ contains b bs = cond (anyOf (same b) bs) True (cond (anyOf isUnknown bs) Unknown
 -- true on a known 1, else unknown on an unknown bit, else false
 abbrev pub truthOf : List LogicBit → Truth
 truthOf = contains One
+
+-- ---- by words, in their numbers (document 02, point 4)
+
+abbrev pub notZero : ℕ → Bool
+notZero x = not (eqb x 0)
+
+-- of each word the places that are set in value and clear in unknown
+abbrev pub knownOnes : Planes → List ℕ
+knownOnes p = tabulate (length (p .value)) (λ k. bitAnd (getD (p .value) k 0) (complement (getD (p .unknown) k 0)))
+
+-- true if some word has such a place, else unknown if some unknown word is not 0, else false
+abbrev pub truthByWords : Planes → Truth
+truthByWords p = cond (anyOf notZero (knownOnes p)) True (cond (anyOf notZero (p .unknown)) Unknown False)
 
 -- a truth as a bit, x where it is unknown
 abbrev pub truthBit : Truth → LogicBit

@@ -3,48 +3,30 @@ use crate::Truth;
 use bit::LogicBit;
 use words::unchecked::ones;
 ghost use mathlib.Core.Path.{_≡_};
-ghost use Rattle.words.specs.Planes.{fromPlanes, Plane};
-ghost use Rattle.reduce_words.specs.Fold.{reduceAnd, reduceOr, reduceXor, truthOf, knownBit};
-ghost use Rattle.reduce_words.specs.Fold as fold;
+ghost use Rattle.words.specs.Planes.{fromPlanes, lentBy, Plane};
+ghost use Rattle.reduce_words.specs.Fold.{reduceAnd, reduceOr, reduceXor, truthOf, truthByWords};
 
-// Whether a known 1 stands in the vector, or a known 0 where `one` is false; unknown where only an unknown bit could be it.
-pub fn contains(width: u32, value: &[u64], unknown: &[u64], one: bool) -> Truth
+// True on a known 1, else unknown on an unknown bit, else false. By words, and by bits.
+pub fn truth(width: u32, value: &[u64], unknown: &[u64]) -> Truth
     requires { ⌜ Plane width (now value) ⌝ }
     requires { ⌜ Plane width (now unknown) ⌝ }
-    ensures { λ r. ⌜ r
-        ≡ fold.contains (knownBit one) (fromPlanes width (now (value .entry)) (now (unknown .entry))) ⌝ }
+    ensures { λ r. ⌜ r ≡ truthByWords (lentBy (value .entry) (unknown .entry)) ⌝ }
+    ensures { λ r. ⌜ r ≡ truthOf (fromPlanes width (now (value .entry)) (now (unknown .entry))) ⌝ }
 {
-    let flip = if one { 0 } else { 0xffff_ffff_ffff_ffff };
-    let last = value.len() - 1;
     let mut seen = 0;
     let mut k = 0;
-    while k < last {
+    while k < value.len() {
         let u = unknown[k];
-        if ((value[k] ^ flip) & !u) != 0 {
+        if (value[k] & !u) != 0 {
             return Truth::True;
         }
         seen = seen | u;
         k += 1;
     }
-    let u = unknown[last];
-    let n = width as usize - last * 64;
-    let m = ones(n);
-    if ((value[last] ^ flip) & !u & m) != 0 {
-        return Truth::True;
-    }
-    if (seen | u) != 0 {
+    if seen != 0 {
         return Truth::Unknown;
     }
     Truth::False
-}
-
-// True on a known 1, else unknown on an unknown bit, else false.
-pub fn truth(width: u32, value: &[u64], unknown: &[u64]) -> Truth
-    requires { ⌜ Plane width (now value) ⌝ }
-    requires { ⌜ Plane width (now unknown) ⌝ }
-    ensures { λ r. ⌜ r ≡ truthOf (fromPlanes width (now (value .entry)) (now (unknown .entry))) ⌝ }
-{
-    contains(width, value, unknown, true)
 }
 
 // 0 on any known 0, else x on any unknown bit, else 1.
@@ -53,11 +35,27 @@ pub fn and_bits(width: u32, value: &[u64], unknown: &[u64]) -> LogicBit
     requires { ⌜ Plane width (now unknown) ⌝ }
     ensures { λ r. ⌜ r ≡ reduceAnd (fromPlanes width (now (value .entry)) (now (unknown .entry))) ⌝ }
 {
-    match contains(width, value, unknown, false) {
-        Truth::True => LogicBit::Zero,
-        Truth::Unknown => LogicBit::X,
-        Truth::False => LogicBit::One,
+    let last = value.len() - 1;
+    let mut seen = 0;
+    let mut k = 0;
+    while k < last {
+        let u = unknown[k];
+        if !(value[k] | u) != 0 {
+            return LogicBit::Zero;
+        }
+        seen = seen | u;
+        k += 1;
     }
+    let u = unknown[last];
+    let n = width as usize - last * 64;
+    let m = ones(n);
+    if (!(value[last] | u) & m) != 0 {
+        return LogicBit::Zero;
+    }
+    if (seen | u) != 0 {
+        return LogicBit::X;
+    }
+    LogicBit::One
 }
 
 // 1 on any known 1, else x on any unknown bit, else 0.

@@ -1,23 +1,25 @@
--- The cases of document 01, "Cases on either side", that are marked with a star, and cases of document 02, points 2 and 3, over the definitions
--- that the contracts cite. A vector is written highest bit first, each bit by its code: 0, 1, x or z.
+-- The cases of document 01, "Cases on either side", that are marked with a star, and cases of document 02, points 2 to 4, over the definitions
+-- that the contracts cite. A vector is written highest bit first, each bit by its code: 0, 1, x or z; a plane as its words, lowest first.
 use mathlib.Core.Path.{_≡_}
 use mathlib.Core.Bool.{Bool, true, false, cond}
 use mathlib.Core.List.{List, [], _∷_, map, reverse}
-use Prim.Native.Nat.{ℕ}
+use Prim.Native.Nat.{ℕ, _-_, _^_}
 use lib.ListN.{length}
 use lib.Ieee.{binary64, nan, ofBits}
 use Rattle.bit.specs.declared.LogicBit.{LogicBit}
 use Rattle.bit.specs.declared.LogicBit.the-variants.{Zero, One, X}
 use Rattle.bit.specs.Rules.{ofCode}
-use Rattle.words.specs.Planes.{Planes}
+use Rattle.words.specs.Planes.{Planes, lent}
 use Rattle.value.specs.declared.Header.{Header}
 use Rattle.value.specs.declared.Operand.{Operand}
 use Rattle.value.specs.declared.Operand.the-variants as operand
 use Rattle.value.specs.Checks.{Vector}
 use Rattle.lanes.specs.declared.Bitwise.{Bitwise}
 use Rattle.lanes.specs.declared.Bitwise.the-variants.{And, Or, Xor, Merge}
-use Rattle.bitwise_words.specs.Joined.{joined, inverted, resultSigned}
-use Rattle.reduce_words.specs.Fold.{reduceAnd, reduceOr, reduceXor}
+use Rattle.bitwise_words.specs.Joined.{joined, inverted, invertedPlanes, resultSigned}
+use Rattle.reduce_words.specs.declared.Truth.{Truth}
+use Rattle.reduce_words.specs.declared.Truth.the-variants as truth
+use Rattle.reduce_words.specs.Fold.{reduceAnd, reduceOr, reduceXor, truthByWords}
 use Rattle.compare_words.specs.declared.Comparison.the-variants.{Equal, CaseEqual, CasezEqual, WildcardEqual}
 use Rattle.compare_words.specs.Compared.{compared}
 use Rattle.compare.specs.Compare.{equalOperands}
@@ -180,4 +182,48 @@ pointThree =
     ∷ numeric (operand.Real nan) (operand.Real nan) tells decision Zero Numeric
     ∷ numeric (operand.Real (ofBits binary64 0)) empty tells decision One Numeric
     ∷ numeric empty (operand.Real nan) tells decision Zero Numeric
+    ∷ []
+
+-- ---- by words
+
+infixl 85 _inverts_
+abbrev _inverts_ : Planes → Planes → Case Planes
+given inverts said = record { given = given; said = said }
+
+-- all 64 places of a word
+abbrev ones : ℕ
+ones = 2 ^ 64 - 1
+
+-- each word of not, at widths 0, 1, 4, 64, 65 and 128
+abbrev pub pointFourNot : List (Case Planes)
+pointFourNot =
+    invertedPlanes 0 (lent (0 ∷ []) (0 ∷ [])) inverts lent (0 ∷ []) (0 ∷ [])
+    ∷ invertedPlanes 1 (lent (0 ∷ []) (0 ∷ [])) inverts lent (1 ∷ []) (0 ∷ [])
+    ∷ invertedPlanes 1 (lent (1 ∷ []) (0 ∷ [])) inverts lent (0 ∷ []) (0 ∷ [])
+    ∷ invertedPlanes 4 (lent (5 ∷ []) (3 ∷ [])) inverts lent (8 ∷ []) (3 ∷ [])
+    ∷ invertedPlanes 64 (lent (0 ∷ []) (0 ∷ [])) inverts lent (ones ∷ []) (0 ∷ [])
+    ∷ invertedPlanes 64 (lent (ones ∷ []) (ones ∷ [])) inverts lent (0 ∷ []) (ones ∷ [])
+    ∷ invertedPlanes 65 (lent (0 ∷ 0 ∷ []) (0 ∷ 0 ∷ [])) inverts lent (ones ∷ 1 ∷ []) (0 ∷ 0 ∷ [])
+    ∷ invertedPlanes 65 (lent (1 ∷ 1 ∷ []) (2 ∷ 0 ∷ [])) inverts lent ((ones - 3) ∷ 0 ∷ []) (2 ∷ 0 ∷ [])
+    ∷ invertedPlanes 65 (lent (0 ∷ 0 ∷ []) (0 ∷ 1 ∷ [])) inverts lent (ones ∷ 0 ∷ []) (0 ∷ 1 ∷ [])
+    ∷ invertedPlanes 128 (lent (0 ∷ 1 ∷ []) (0 ∷ 0 ∷ [])) inverts lent (ones ∷ (ones - 1) ∷ []) (0 ∷ 0 ∷ [])
+    ∷ []
+
+infixl 85 _counts_
+abbrev _counts_ : Truth → Truth → Case Truth
+given counts said = record { given = given; said = said }
+
+-- truth by the words of one or two planes: 0, 1, x and z alone, beside each other, and in two words
+abbrev pub pointFourTruth : List (Case Truth)
+pointFourTruth =
+    truthByWords (lent (0 ∷ []) (0 ∷ [])) counts truth.False
+    ∷ truthByWords (lent (1 ∷ []) (0 ∷ [])) counts truth.True
+    ∷ truthByWords (lent (0 ∷ []) (1 ∷ [])) counts truth.Unknown
+    ∷ truthByWords (lent (1 ∷ []) (1 ∷ [])) counts truth.Unknown
+    ∷ truthByWords (lent (3 ∷ []) (1 ∷ [])) counts truth.True
+    ∷ truthByWords (lent (ones ∷ []) (ones ∷ [])) counts truth.Unknown
+    ∷ truthByWords (lent (0 ∷ 0 ∷ []) (0 ∷ 0 ∷ [])) counts truth.False
+    ∷ truthByWords (lent (0 ∷ 0 ∷ []) (1 ∷ 0 ∷ [])) counts truth.Unknown
+    ∷ truthByWords (lent (0 ∷ 1 ∷ []) (1 ∷ 0 ∷ [])) counts truth.True
+    ∷ truthByWords (lent (1 ∷ 2 ∷ []) (1 ∷ 2 ∷ [])) counts truth.Unknown
     ∷ []

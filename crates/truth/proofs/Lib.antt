@@ -1,1 +1,2 @@
 pub mod Truths
+pub mod ByWords

@@ -19,12 +19,16 @@ use lib.Bits.{bitAnd, bitOr, and-lt, or-lt, and-mask, and-le-l}
 use Rattle.bit.specs.declared.LogicBit.{LogicBit}
 use Rattle.bit.specs.declared.LogicBit.the-variants.{Zero}
 use Rattle.words.specs.Vector.{at, bitAt, tabulate, pack}
-use Rattle.words.specs.Planes.{valueDigit, unknownDigit, stored, planeBit, planeDigits, wordOf, fromPlanes}
+use Rattle.words.specs.Planes.{valueDigit, unknownDigit, stored, planeBit, planeDigits, wordOf, fromPlanes, widthMask}
 use Rattle.words.proofs.Digits.{bit-and, bit-or, bit-not, bit-ones, bit-above, bit-lt, bit-mod, bit-mod-above, pack-ext, pack-bit, pack-lt, pack-cong, lt-or-ge}
 use Rattle.words.proofs.Planes.{getD-tabulate, getD-tabulate-out, plane-bit, value-digit-stored, unknown-digit-stored, value-digit-lt, unknown-digit-lt, stored-bit}
 
 pub mask-lt : (n : ℕ) → n ≤ 64 → 2 ^ n - 1 < 2 ^ 64
 mask-lt n l = lt-of-lt-of-le (ones-lt n) (pow-mono l)
+
+-- a word below the width is kept whole
+pub whole-mask : (w k : ℕ) → k * 64 + 64 ≤ w → 2 ^ 64 - 1 ≡ widthMask w k
+whole-mask w k l = let e : 64 ≡ min 64 (w - k * 64) = omega arith in ap (λ (n : ℕ). 2 ^ n - 1) e
 
 -- digit j of the n low ones
 pub ones-digit : (n j : ℕ) → eqb (bitAt (2 ^ n - 1) j) 1 ≡ ltb j n

@@ -2,7 +2,7 @@
 use mathlib.Core.Path.{_≡_}
 use mathlib.Core.Bool.{Bool, true, _&&_}
 use mathlib.Core.List.{List, [], _∷_}
-use Prim.Native.Nat.{ℕ, zero, suc, _+_, _-_, _*_, _/_, _%_, _≤_}
+use Prim.Native.Nat.{ℕ, zero, suc, _+_, _-_, _*_, _/_, _%_, _^_, _≤_, _<_, min}
 use denote.Ref.{RefT, now}
 use lib.Dec.{eqb}
 use lib.ListN.{length, getD, drop}
@@ -116,3 +116,22 @@ vectorOf w p = fromPlanes w (p .value) (p .unknown)
 
 abbrev pub planesOf : List LogicBit → Planes
 planesOf bs = lent (valuePlane bs) (unknownPlane bs)
+
+-- ---- in the numbers of the words themselves (document 02, point 4)
+
+-- the words of both planes are 64-bit numbers, as those of every slice are
+pub record Words64 (p : Planes) : Type 0 where
+  pub value-words : (k : ℕ) → getD (p .value) k 0 < 2 ^ 64
+  pub unknown-words : (k : ℕ) → getD (p .unknown) k 0 < 2 ^ 64
+
+-- word k of both planes
+abbrev pub wordIn : Planes → ℕ → Word
+wordIn p k = wordBy (getD (p .value) k 0) (getD (p .unknown) k 0)
+
+-- a 64-bit number with each digit exchanged, as by `!`
+abbrev pub complement : ℕ → ℕ
+complement x = (2 ^ 64 - 1) - x
+
+-- a one at each place of word k that lies below the width w
+abbrev pub widthMask : ℕ → ℕ → ℕ
+widthMask w k = 2 ^ min 64 (w - k * 64) - 1

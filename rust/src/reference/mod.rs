@@ -1,8 +1,10 @@
 //! The reference, compiled in place and unmodified, and what every comparison with it needs: a vector that owns its planes, drawn inputs,
-//! reals, the answers of the standard where the library departs from it, the tables of answers, and step lists worked out.
+//! reals, the answers of the standard where the library departs from it, the tables of answers, and step lists worked out. Beside it stand not
+//! and truth bit by bit.
 include!(concat!(env!("OUT_DIR"), "/reference.rs"));
 
 pub mod answers;
+pub mod bit_by_bit;
 pub mod draw;
 pub mod reals;
 pub mod standard;

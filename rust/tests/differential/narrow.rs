@@ -9,7 +9,7 @@ use vowherunga::LogicBit::{One, Zero, X};
 use vowherunga::{LogicBit, Narrow, Word};
 
 /// A sample that is narrow.
-fn narrow(s: &Sample) -> Option<Narrow> {
+pub fn narrow(s: &Sample) -> Option<Narrow> {
     match s.header().width {
         0..=64 => Some(Narrow::new(s.header(), s.value[0], s.unknown[0]).unwrap()),
         _ => None,
@@ -17,7 +17,7 @@ fn narrow(s: &Sample) -> Option<Narrow> {
 }
 
 /// Header and bits are those of the expected vector.
-fn same(ours: Narrow, theirs: impl Into<Vector>, of: impl Fn() -> String) {
+pub fn same(ours: Narrow, theirs: impl Into<Vector>, of: impl Fn() -> String) {
     let want = theirs.into();
     let bits = Word {
         value: want.value[0],

@@ -1,5 +1,7 @@
 //! Each refusal that the entries can give, the order in which they come, and that a refused call writes nothing.
 mod arrays;
+#[cfg(feature = "reference")]
+mod bit_by_bit;
 #[path = "../lent/mod.rs"]
 mod lent;
 mod operators;

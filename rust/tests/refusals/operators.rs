@@ -27,7 +27,7 @@ type Plane<'a> = &'a [u64];
 type Output<'a> = &'a mut [u64];
 
 /// An entry by what it takes and gives.
-enum Entry {
+pub enum Entry {
     Check(fn(Header, Plane, Plane) -> Result<(), Refusal>),
     Reduction(fn(Header, Plane, Plane) -> Result<LogicBit, Refusal>),
     Truth(fn(Operand, Plane, Plane) -> Result<Truth, Refusal>),
@@ -74,7 +74,7 @@ impl Entry {
         matches!(self, Entry::Truth(_) | Entry::OfOperands(_))
     }
 
-    fn writes(&self) -> bool {
+    pub fn writes(&self) -> bool {
         matches!(self, Entry::Not(_) | Entry::Bitwise(_))
     }
 
@@ -94,7 +94,7 @@ impl Entry {
 
 /// Lends operands and output planes of some lengths to an entry, and sees which number it answers, that no operand changes and that, where it
 /// is refused, no output does.
-fn answers(name: &str, entry: &Entry, inputs: &[&Input], lengths: [usize; 2], want: u8) {
+pub fn answers(name: &str, entry: &Entry, inputs: &[&Input], lengths: [usize; 2], want: u8) {
     let mut lent: Vec<[Lent; 2]> = inputs.iter().map(|i| [Lent::new(&i.value), Lent::new(&i.unknown)]).collect();
     let given: Vec<Given> = inputs
         .iter()
@@ -128,7 +128,7 @@ fn answers(name: &str, entry: &Entry, inputs: &[&Input], lengths: [usize; 2], wa
 }
 
 /// Runs an entry over operands, with output planes that fit and with some that do not. Gives the number of calls.
-fn refuses(name: &str, entry: &Entry, inputs: &[&Input]) -> usize {
+pub fn refuses(name: &str, entry: &Entry, inputs: &[&Input]) -> usize {
     let operands = inputs.iter().map(|i| i.operators).find(|n| *n != 0).unwrap_or(0);
     let width = inputs.iter().filter_map(|i| i.header()).map(|h| h.width).max().unwrap_or(0);
     let words = word_count(width.min(MAX_WIDTH));

@@ -38,7 +38,7 @@ returns-3 c =
     let t = t2 .before .before .before .before .before in
     let a = t .before .before .before .before .before .before .before .args in
     simp (verdict-told (t .before .before .check-vector .ensures) (t .enum-told .given .1), verdict-told (t2 .before .before .check-output .ensures) (t2 .enum-told2 .given .1))
-    (ap (λ (p : Planes). outcome (given (notHeader (a .a))) p) (j .not-planes .ensures))
+    (ap (λ (p : Planes). outcome (given (notHeader (a .a))) p) (j .not-planes .ensures .1))
 
 pub bitwise-not-spec : {M : Type 1} → statement M
 bitwise-not-spec =

@@ -13,7 +13,7 @@ to-code-requires : tie.Need-to-code-requires
 to-code-requires c κs = search needs
 
 returns : tie.Need-returns
-returns c = rw (c .to-code .ensures, c .before .truth-bit .ensures, c .before .before .truth .ensures)
+returns c = rw (c .to-code .ensures, c .before .truth-bit .ensures, c .before .before .truth .ensures .1)
 
 pub vowherunga-truth-word-spec : {M : Type 1} → statement M
 vowherunga-truth-word-spec =

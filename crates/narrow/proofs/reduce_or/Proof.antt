@@ -15,7 +15,7 @@ truth-bit-requires : tie.Need-truth-bit-requires
 truth-bit-requires c κs = search needs
 
 returns : tie.Need-returns
-returns c = c .truth-bit .ensures ∙ ap truthBit (c .before .truth .ensures) ∙ truth-or (vectorOf 64 (single (c .before .before .args .a)))
+returns c = c .truth-bit .ensures ∙ ap truthBit (c .before .truth .ensures .1) ∙ truth-or (vectorOf 64 (single (c .before .before .args .a)))
 
 pub reduce-or-spec : {M : Type 1} → statement M
 reduce-or-spec = tie.close (tie.spec truth-requires truth-bit-requires returns)

@@ -27,7 +27,7 @@ returns-2 : tie.Need-returns-2
 unfolding checkOperand
 returns-2 c =
     let t = c .before in
-    simp (verdict-told (t .before .before .check-vector .ensures) (t .enum-told .given .1), c .truth .ensures)
+    simp (verdict-told (t .before .before .check-vector .ensures) (t .enum-told .given .1), c .truth .ensures .1)
 
 pub vector-truth-spec : {M : Type 1} → statement M
 vector-truth-spec =

@@ -1,5 +1,5 @@
 //! The reference and the library side by side, in one run of about a minute; prints the figures of docs/PERFORMANCE.md. Words on the command
-//! line name the operators to run, all without any; the copy, the runs of step lists and the literals are always taken.
+//! line name the operators to run, all without any; the copy, the runs of step lists, the literals and the forms bit by bit are always taken.
 //!
 //! reference: the operator of `Value`, which allocates its result where that is wider than 64 bits; the drop is in the time too.
 //! ours: the function over planes, every check included, into planes that are lent again for each call.
@@ -8,11 +8,13 @@
 //! Each side finds its operands behind a pointer.
 //! Inputs are known, or mixed: half of the bits unknown. Those of comparisons, reductions and truth are such that the scan goes to the end:
 //! equal operands; all 1 or all 0 but for unknown bits; for the reduction by xor only the top bit is unknown.
+mod by_bits;
 mod inputs;
 mod literals;
 mod race;
 mod runs;
 
+use by_bits::ByBits;
 use inputs::{output, Input};
 use race::{Race, Side};
 use std::hint::black_box;
@@ -286,12 +288,14 @@ fn main() {
     let (list, store) = ([0, 64, 256], [0, 1, 256]);
     let (mut listed, mut kept) = (runs::listed(list), runs::kept(store));
     let (named_literals, mut literals) = literals::read_and_written(&mut rng);
+    let mut by_bits = ByBits::new();
     for _ in 0..ROUNDS {
         rows.iter_mut().for_each(|row| row.race.round());
         copy.round();
         listed.round();
         kept.round();
         literals.round();
+        by_bits.round();
     }
     print_table(&rows, "reference", "ours");
     print_table(&rows, "reference", "by value");
@@ -319,4 +323,5 @@ fn main() {
     for (name, ns) in named_literals.iter().zip(literals.result().times) {
         println!("{name} takes {ns:.0} ns.");
     }
+    by_bits.print();
 }

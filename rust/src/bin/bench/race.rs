@@ -44,9 +44,10 @@ impl Race {
         Race { sides, rounds }
     }
 
-    /// How many calls make a batch.
+    /// How many calls make a batch. The first call, which may find memory that was never touched, is not counted.
     fn calibrate(&mut self) {
         for (side, calls) in &mut self.sides {
+            side(1);
             while time(side, *calls) < BATCH {
                 *calls *= 2;
             }

@@ -43,7 +43,7 @@ returns-2 c =
     let k = h .before .before .before in
     let a = k .before .before .before .before .args in
     c .truth-word .ensures
-    ∙ ap truthBit (h .contains .ensures)
+    ∙ ap truthBit (h .truth .ensures .1)
     ∙ truth-or (fromPlanes (a .a .width) (a .av .now) (a .au .now))
     ∙ told k _ (h .before .enum-told2 .given .1)
 
@@ -63,7 +63,7 @@ returns-5 c =
     let x = y .before .before in
     low (c .and-lanes .ensures)
     ∙ lane-bit andBit (x .truth-word2 .result) (y .truth-word3 .result)
-    ∙ ap₂ andBit (x .truth-word2 .ensures ∙ ap truthBit (x .before .contains2 .ensures)) (y .truth-word3 .ensures ∙ ap truthBit (y .before .contains3 .ensures))
+    ∙ ap₂ andBit (x .truth-word2 .ensures ∙ ap truthBit (x .before .truth2 .ensures .1)) (y .truth-word3 .ensures ∙ ap truthBit (y .before .truth3 .ensures .1))
     ∙ told (x .before .before .before .before) _ (x .before .before .enum-told4 .given .1)
 
 returns-6 : tie.Need-returns-6
@@ -72,7 +72,7 @@ returns-6 c =
     let x = y .before .before in
     low (c .or-lanes .ensures)
     ∙ lane-bit orBit (x .truth-word4 .result) (y .truth-word5 .result)
-    ∙ ap₂ orBit (x .truth-word4 .ensures ∙ ap truthBit (x .before .contains4 .ensures)) (y .truth-word5 .ensures ∙ ap truthBit (y .before .contains5 .ensures))
+    ∙ ap₂ orBit (x .truth-word4 .ensures ∙ ap truthBit (x .before .truth4 .ensures .1)) (y .truth-word5 .ensures ∙ ap truthBit (y .before .truth5 .ensures .1))
     ∙ told (x .before .before .before .before) _ (x .before .before .enum-told5 .given .1)
 
 pub answer-spec : {M : Type 1} → statement M

@@ -45,7 +45,7 @@ module _ (c : tie.After-family-of) where
     told = let a = c .before .before .before .before .before .before .before .before .before .args in ap (λ (k : Family). planesOf (familyBits k first second third (a .pos))) (sym e ∙ c .family-of .ensures)
 
 -- a select, where the truth was told
-module _ (c : tie.After-contains) where
+module _ (c : tie.After-truth) where
   abbrev there : tie.After-family-of
   there = c .before .before .before
 
@@ -60,9 +60,9 @@ module _ (c : tie.After-contains) where
       arms-alike (a .b) (a .c) (ap (λ (k : Family). familyRefused k (a .b) (a .c)) (sym (c .before .enum-told2 .given .1) ∙ there .family-of .ensures) ∙ s .pre .1 .1 .1 .0)
 
   -- the arm that is named, or both merged
-  chosen : (t : Truth) → c .contains .result ≡ t → let a = there .before .before .before .before .before .before .before .before .before .args in
+  chosen : (t : Truth) → c .truth .result ≡ t → let a = there .before .before .before .before .before .before .before .before .before .args in
       planesOf (selected t (second there) (third there)) ≡ planesOf (opBits (a .op) (first there) (second there) (third there) (a .pos))
-  chosen t e = ap (λ (t : Truth). planesOf (selected t (second there) (third there))) (sym e ∙ c .contains .ensures) ∙ told there _ (c .before .enum-told2 .given .1)
+  chosen t e = ap (λ (t : Truth). planesOf (selected t (second there) (third there))) (sym e ∙ c .truth .ensures .1) ∙ told there _ (c .before .enum-told2 .given .1)
 
 join-planes-requires : tie.Need-join-planes-requires
 join-planes-requires c κs =
@@ -148,7 +148,7 @@ returns-2 : tie.Need-returns-2
 returns-2 c =
     let p = c .before .before .before .before in
     let t = p .before .before .before in
-    p .not-planes .ensures ∙ told (t .before .before) _ (t .enum-told .given .1)
+    p .not-planes .ensures .1 ∙ told (t .before .before) _ (t .enum-told .given .1)
 
 returns-3 : tie.Need-returns-3
 returns-3 c =

@@ -16,7 +16,7 @@ truth-bit-requires c κs = search needs
 returns : tie.Need-returns
 returns c =
     let a = c .before .before .before .before .args in
-    c .truth-bit .ensures ∙ ap truthBit (c .before .truth .ensures) ∙ truth-or (fromPlanes (a .width) (a .value .now) (a .unknown .now))
+    c .truth-bit .ensures ∙ ap truthBit (c .before .truth .ensures .1) ∙ truth-or (fromPlanes (a .width) (a .value .now) (a .unknown .now))
 
 pub or-bits-spec : {M : Type 1} → statement M
 or-bits-spec = tie.close (tie.spec truth-requires truth-bit-requires returns)

@@ -22,8 +22,10 @@ planes : (c : tie.After-shared-slice-known2 Inv-loop μ-loop) → let a = c .bef
 planes c = record {
   value-plane = c .before .before .before .before .pre .0;
   unknown-plane = c .before .before .before .before .pre .1;
-  value-words = λ k. c .before .shared-slice-known .given k .fits;
-  unknown-words = λ k. c .shared-slice-known2 .given k .fits;
+  words = record {
+    value-words = λ k. c .before .shared-slice-known .given k .fits;
+    unknown-words = λ k. c .shared-slice-known2 .given k .fits;
+  };
 }
 
 loop-holds : tie.Need-loop-holds Inv-loop μ-loop
@@ -57,7 +59,7 @@ loop-again : tie.Need-loop-again Inv-loop μ-loop
 loop-again c =
     let k = c .before in
     let l = k .before .before .before in
-    (omega arith, xor-lt 64 _ _ (l .loop .inv .1) (planes k .value-words _), another _ _ _ (planes k) _ _ (l .loop .inv .2) (l .loop .inv .1) (c .if1 .left))
+    (omega arith, xor-lt 64 _ _ (l .loop .inv .1) (planes k .words .value-words _), another _ _ _ (planes k) _ _ (l .loop .inv .2) (l .loop .inv .1) (c .if1 .left))
 
 returns-2 : tie.Need-returns-2 Inv-loop μ-loop
 returns-2 c =
