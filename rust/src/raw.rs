@@ -1,7 +1,7 @@
 //! The exports of the crates `ffi..` as C sees them: a slice is a pointer and a length, a bit its code, a refusal its number (0: done). Nothing
 //! holds these declarations to the crates but the tests: they stand in their order, with their names, and tests/shell/c_header.sh compares
 //! them with the exports and with include/vowherunga.h. The exports of `ffi_store` and `ffi_run` stand in [`store`]; those of
-//! `ffi_bit_by_bit`, which are for comparisons alone, in `reference::bit_by_bit`. Public for the tests alone, which hand over what the
+//! `ffi_bit_by_bit`, which are for comparisons alone and in no header, in `reference::bit_by_bit`. Public for the tests alone, which hand over what the
 //! binding's types rule out.
 use crate::{Header, Word};
 

@@ -26,6 +26,6 @@ notByWords a p out =
     orRefuse (checkVector a p) out
     (orRefuse (checkOutput (a .width) out) out (outcome (given (notHeader a)) (invertedPlanes (a .width) p)))
 
--- stated of every call
+-- stated of every call, since the words of what is lent have 64 bits
 abbrev pub NotByWords : Type 0
 NotByWords = (a : Header) (p out : Planes) → Words64 p → bitwiseNot a p out ≡ notByWords a p out

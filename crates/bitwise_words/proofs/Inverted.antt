@@ -11,7 +11,7 @@ use Rattle.words.specs.declared.Word.{Word}
 use Rattle.words.specs.Vector.{at, tabulate}
 use Rattle.words.specs.Planes.{stored, planeBit, fromPlanes, wordCount, wordIn, wordAt, lent, planesOf, Words64}
 use Rattle.words.proofs.Planes.{length-tabulate, getD-tabulate, eq-tabulate, plane-bit}
-use Rattle.lanes.proofs.Places.{cutWord, not-word, one-cut}
+use Rattle.lanes.proofs.Places.{not-word, one-cut}
 use Rattle.bitwise_words.specs.Joined.{inverted, invertedWord, invertedPlanes}
 
 module _ (w : ℕ) (v u : List ℕ) where
@@ -35,9 +35,8 @@ module _ (w : ℕ) (v u : List ℕ) where
 
   module _ (f : Words64 (lent v u)) where
     word : (k : ℕ) → invertedWord w (lent v u) k ≡ wordIs k
-    unfolding cutWord
     word k =
-        ap (cutWord w k) (not-word (wordIn (lent v u) k) (f .value-words k) (f .unknown-words k))
+        not-word w k (wordIn (lent v u) k) (f .value-words k) (f .unknown-words k)
         ∙ one-cut notBit (λ i. stored (planeBit v i) (planeBit u i)) w k (wordIn (lent v u) k)
         (λ j l. ap₂ stored (plane-bit v k j l) (plane-bit u k j l))
 

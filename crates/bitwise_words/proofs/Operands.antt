@@ -8,7 +8,7 @@ use native.Mathlib.Omega.{arith}
 use lib.ListN.{length, getD}
 use Rattle.words.specs.declared.Word.{Word}
 use Rattle.words.specs.Vector.{at, FilledTo}
-use Rattle.words.specs.Planes.{valueDigit, unknownDigit, wordCount, fromPlanes, wordOf, wordAt, lent, planesOf, wordBy}
+use Rattle.words.specs.Planes.{valueDigit, unknownDigit, wordCount, fromPlanes, wordOf, wordAt, wordIn, lent, planesOf}
 use Rattle.words.proofs.Planes.{length-tabulate}
 use Rattle.words.proofs.Fill.{plane-done}
 use Rattle.extension.specs.declared.Extent.{Extent}
@@ -30,7 +30,7 @@ module _ (op : Bitwise) (w : ℕ) (x : Extent) (av au : List ℕ) (y : Extent) (
       → joinedWord op (lent av au) (lent bv bu) i ≡ wordAt (at (joinedOver op w x (lent av au) y (lent bv bu))) i
   direct-word h i l =
       whole-word (opBit op) (λ i. getD (fromPlanes (x .width) av au) i (x .beyond)) (λ i. getD (fromPlanes (y .width) bv bu) i (y .beyond)) w i
-      (wordBy (getD av i 0) (getD au i 0)) (wordBy (getD bv i 0) (getD bu i 0))
+      (wordIn (lent av au) i) (wordIn (lent bv bu) i)
       (direct (x .width) av au (x .beyond) i (omega arith))
       (direct (y .width) bv bu (y .beyond) i (omega arith))
       (omega arith)

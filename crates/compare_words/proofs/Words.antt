@@ -28,7 +28,7 @@ use Rattle.bit.specs.declared.LogicBit.{LogicBit}
 use Rattle.bit.specs.declared.LogicBit.the-variants.{Zero, One}
 use Rattle.words.specs.declared.Word.{Word}
 use Rattle.words.specs.Vector.{bitAt, tabulate, pack}
-use Rattle.words.specs.Planes.{stored, bitOf, wordAt, lent, wordBy}
+use Rattle.words.specs.Planes.{stored, bitOf, wordAt, lent, wordBy, wordIn, widthMask}
 use Rattle.words.proofs.Digits.{lt-or-ge, bit-zero, bit-shl-low, bit-shl-high, pack-bit, pack-lt, pack-ext, pack-cong, bit-of-zero}
 use Rattle.words.proofs.Planes.{getD-tabulate, getD-tabulate-out, length-tabulate}
 use Rattle.words.proofs.Lanes.{Lane, word, gives, lane}
@@ -67,7 +67,7 @@ digit-one false = refl
 
 -- the ones of word k that lie below the width w
 abbrev pub below : ℕ → ℕ → ℕ → ℕ
-below w k m = bitAnd m (2 ^ min 64 (w - k * 64) - 1)
+below w k m = bitAnd m (widthMask w k)
 
 module _ (t : LogicBit → LogicBit → Bool) (fails : t Zero Zero ≡ false) (f g : ℕ → LogicBit) (w k : ℕ) (x y : Word)
     (hx : (j : ℕ) → j < 64 → bitOf x j ≡ f (k * 64 + j)) (hy : (j : ℕ) → j < 64 → bitOf y j ≡ g (k * 64 + j)) where
@@ -259,10 +259,6 @@ module _ (op : Comparison) (f g : ℕ → LogicBit) (w k : ℕ) (x y : Word)
 
 -- ---- words straight from the planes
 
--- word k of two planes
-abbrev wordIn : List ℕ → List ℕ → ℕ → Word
-wordIn v u k = wordBy (getD v k 0) (getD u k 0)
-
 module _ (op : Comparison) (w : ℕ) (a b : Extent) (av au bv bu : List ℕ) where
   -- nothing is found in the first k words
   none-found : (k : ℕ) → Clear (onPair (mismatch op)) zeros (placesOver w a (lent av au) b (lent bv bu)) (k * 64)
@@ -270,33 +266,35 @@ module _ (op : Comparison) (w : ℕ) (a b : Extent) (av au bv bu : List ℕ) whe
   none-found k m u = record { apart = m; sure = λ _. u; below = λ z. absurd (z refl); stands = λ z. absurd (z refl) }
 
   next-whole : (k : ℕ) → k * 64 + 64 ≤ w → k * 64 + 64 ≤ a .width → k * 64 + 64 ≤ b .width
-      → (m : Marks) → m ≡ marksOf op (wordBy (getD av k 0) (getD au k 0)) (wordBy (getD bv k 0) (getD bu k 0)) → m .apart ≡ 0 → m .doubt ≡ 0
+      → (m : Marks) → m ≡ marksOf op (wordIn (lent av au) k) (wordIn (lent bv bu) k) → m .apart ≡ 0 → m .doubt ≡ 0
       → Scanned op (placesOver w a (lent av au) b (lent bv bu)) 0 0 0 k → Scanned op (placesOver w a (lent av au) b (lent bv bu)) 0 0 0 (k + 1)
   next-whole k hw ha hb m e z d s =
       let r = next-first op (extentAt a (lent av au)) (extentAt b (lent bv bu)) w k
-      (wordIn av au k) (wordIn bv bu k)
+      (wordIn (lent av au) k) (wordIn (lent bv bu) k)
       (λ j l. sym (inside (a .width) av au (a .beyond) k j l (omega arith)))
       (λ j l. sym (inside (b .width) bv bu (b .beyond) k j l (omega arith)))
-      m (whole op w k (wordIn av au k) (wordIn bv bu k) m e hw) 0 0 0 s z refl in
+      m (whole op w k (wordIn (lent av au) k) (wordIn (lent bv bu) k) m e hw) 0 0 0 s z refl in
       none-found (k + 1) (r .apart) (r .sure (ap (bitOr 0) d ∙ or-zero-r 0))
 
   pub whole-marks : (k : ℕ) → k * 64 + 64 ≤ w → k * 64 + 64 ≤ a .width → k * 64 + 64 ≤ b .width
-      → (m : Marks) → m ≡ marksOf op (wordBy (getD av k 0) (getD au k 0)) (wordBy (getD bv k 0) (getD bu k 0))
+      → (m : Marks) → m ≡ marksOf op (wordIn (lent av au) k) (wordIn (lent bv bu) k)
       → m ≡ cutMarks w k (marksOf op (wordAt (extentAt a (lent av au)) k) (wordAt (extentAt b (lent bv bu)) k))
   whole-marks k hw ha hb m e =
       let f : ℕ → LogicBit = extentAt a (lent av au) in
       let g : ℕ → LogicBit = extentAt b (lent bv bu) in
-      let hx : (j : ℕ) → j < 64 → bitOf (wordIn av au k) j ≡ bitOf (wordAt f k) j = λ j l. sym (inside (a .width) av au (a .beyond) k j l (omega arith)) ∙ sym (word-bit f k j l) in
-      let hy : (j : ℕ) → j < 64 → bitOf (wordIn bv bu k) j ≡ bitOf (wordAt g k) j = λ j l. sym (inside (b .width) bv bu (b .beyond) k j l (omega arith)) ∙ sym (word-bit g k j l) in
+      let x : Word = wordIn (lent av au) k in
+      let y : Word = wordIn (lent bv bu) k in
+      let hx : (j : ℕ) → j < 64 → bitOf x j ≡ bitOf (wordAt f k) j = λ j l. sym (inside (a .width) av au (a .beyond) k j l (omega arith)) ∙ sym (word-bit f k j l) in
+      let hy : (j : ℕ) → j < 64 → bitOf y j ≡ bitOf (wordAt g k) j = λ j l. sym (inside (b .width) bv bu (b .beyond) k j l (omega arith)) ∙ sym (word-bit g k j l) in
       whole op w k (wordAt f k) (wordAt g k) m
-      (e ∙ ap₂ marksBy (marked-cong (mismatch op) (wordIn av au k) (wordAt f k) (wordIn bv bu k) (wordAt g k) hx hy) (marked-cong (unsure op) (wordIn av au k) (wordAt f k) (wordIn bv bu k) (wordAt g k) hx hy)) hw
+      (e ∙ ap₂ marksBy (marked-cong (mismatch op) x (wordAt f k) y (wordAt g k) hx hy) (marked-cong (unsure op) x (wordAt f k) y (wordAt g k) hx hy)) hw
 
   pub same-start : (k : ℕ) → k * 64 ≤ w → k * 64 ≤ a .width → k * 64 ≤ b .width → ((i : ℕ) → i < k → unlike av au bv bu i ≡ 0)
       → Scanned op (placesOver w a (lent av au) b (lent bv bu)) 0 0 0 k
   same-start zero hw ha hb h = none-found 0 (λ i l. absurd (omega arith)) (λ i l. absurd (omega arith))
   same-start (suc k) hw ha hb h =
       let q = same-words (getD av k 0) (getD au k 0) (getD bv k 0) (getD bu k 0) (h k (omega arith)) in
-      let e : marksOf op (wordIn av au k) (wordIn bv bu k) ≡ marksBy 0 0 =
+      let e : marksOf op (wordIn (lent av au) k) (wordIn (lent bv bu) k) ≡ marksBy 0 0 =
       (λ i. marksOf op (wordBy (q .0 i) (q .1 .0 i)) (wordBy (getD bv k 0) (q .1 .1 i))) ∙ nothing op (getD bv k 0) in
       rw (sym (add-one k))
       (next-whole k (omega arith) (omega arith) (omega arith) (marksBy 0 0) (sym e) refl refl

@@ -2,7 +2,7 @@
 -- (11.4.6).
 use mathlib.Core.Bool.{Bool, false, not, _&&_, _||_, cond}
 use mathlib.Core.List.{List, [], _∷_}
-use Prim.Native.Nat.{ℕ, suc, _-_, _*_, _^_, min}
+use Prim.Native.Nat.{ℕ, suc}
 use lib.Bits.{bitAnd, bitOr, bitXor}
 use lib.ListN.{getD}
 use Rattle.bit.specs.declared.LogicBit.{LogicBit}
@@ -10,7 +10,7 @@ use Rattle.bit.specs.declared.LogicBit.the-variants.{Zero, One, X, Z}
 use Rattle.bit.specs.Rules.{same, known}
 use Rattle.words.specs.declared.Word.{Word}
 use Rattle.words.specs.Vector.{tabulate, pack}
-use Rattle.words.specs.Planes.{Planes, bitOf}
+use Rattle.words.specs.Planes.{Planes, bitOf, widthMask}
 use Rattle.value.specs.Checks.{Vector}
 use Rattle.reduce_words.specs.Fold.{anyOf}
 use Rattle.extension.specs.declared.Extent.{Extent}
@@ -97,7 +97,7 @@ marksOf op a b = record { apart = marked (mismatch op) a b; doubt = marked (unsu
 
 -- those of word k that lie below the width w
 unfoldable pub cutMarks : ℕ → ℕ → Marks → Marks
-cutMarks w k m = record { apart = bitAnd (m .apart) (2 ^ min 64 (w - k * 64) - 1); doubt = bitAnd (m .doubt) (2 ^ min 64 (w - k * 64) - 1) }
+cutMarks w k m = record { apart = bitAnd (m .apart) (widthMask w k); doubt = bitAnd (m .doubt) (widthMask w k) }
 
 -- a one at each place of word i of two operands where their values differ or one of them is unknown
 abbrev pub unlike : List ℕ → List ℕ → List ℕ → List ℕ → ℕ → ℕ

@@ -1,7 +1,7 @@
 -- Words joined by lanes.
 --     formula          the rules that read a lane formula off the code
 --     both, one        lane formulas that pass the computed test give the rule's word
---     not-word         those of not
+--     not-word         not in numbers is the rule at each place
 --     whole-word       the lanes of two words that hold an operand's bits are a word of the result
 --     rest-word        the same for any word, cut off at the width
 --     one-cut          the same for a rule of one operand
@@ -18,12 +18,12 @@ use Rattle.bit.specs.declared.LogicBit.the-variants.{Zero}
 use Rattle.bit.specs.Rules.{notBit}
 use Rattle.words.specs.declared.Word.{Word}
 use Rattle.words.specs.Vector.{at, tabulate, FilledTo}
-use Rattle.words.specs.Planes.{valueDigit, unknownDigit, stored, planeBit, fromPlanes, wordOf, wordAt, packed, bitOf, wordBy}
+use Rattle.words.specs.Planes.{valueDigit, unknownDigit, stored, planeBit, fromPlanes, wordOf, wordAt, packed, bitOf, wordBy, lent, wordIn, widthMask}
 use Rattle.words.proofs.Digits.{pack-cong}
 use Rattle.words.proofs.Planes.{getD-tabulate, plane-bit, value-digit-lt, unknown-digit-lt}
 use Rattle.words.proofs.Lanes.{Lane, word, gives, lane}
 use Rattle.words.proofs.Extend.{word-bit, cut-vector}
-use Rattle.lanes.specs.Lanes.{laneWord}
+use Rattle.lanes.specs.Lanes.{laneWord, notWord}
 
 -- a rule at each place of one word
 unfoldable pub laneOne : (LogicBit → LogicBit) → Word → Word
@@ -31,7 +31,7 @@ laneOne f a = packed (λ j. f (bitOf a j))
 
 -- word k of a plane of width w, whose bits at or above the width are 0, from a word with any bits there
 unfoldable pub cutWord : ℕ → ℕ → Word → Word
-cutWord w k x = record { value = bitAnd (x .value) (2 ^ min 64 (w - k * 64) - 1); unknown = bitAnd (x .unknown) (2 ^ min 64 (w - k * 64) - 1) }
+cutWord w k x = wordBy (bitAnd (x .value) (widthMask w k)) (bitAnd (x .unknown) (widthMask w k))
 
 -- a lane formula that gives x on the words of a and b
 pub record Formula (a b : Word) (x : ℕ) : Type 0 where
@@ -84,10 +84,10 @@ one f v u tv tu a hp hq =
     (lane (a .value) (a .unknown) 0 0 hp hq (pow-pos 64) (pow-pos 64) v (λ x y. valueDigit (f x)) tv)
     (lane (a .value) (a .unknown) 0 0 hp hq (pow-pos 64) (pow-pos 64) u (λ x y. unknownDigit (f x)) tu)
 
--- not of a word: 1 where neither bit is set, x where it is unknown
-pub not-word : (a : Word) → a .value < 2 ^ 64 → a .unknown < 2 ^ 64
-    → wordBy (word (Lane.neg (Lane.or Lane.av Lane.au)) (a .value) (a .unknown) 0 0) (a .unknown) ≡ laneOne notBit a
-not-word = one notBit (Lane.neg (Lane.or Lane.av Lane.au)) Lane.au tt tt
+-- not in numbers is the rule at each place, cut off at the width
+pub not-word : (w k : ℕ) (a : Word) → a .value < 2 ^ 64 → a .unknown < 2 ^ 64 → notWord a (widthMask w k) ≡ cutWord w k (laneOne notBit a)
+unfolding cutWord
+not-word w k a hv hu = ap (cutWord w k) (one notBit (Lane.neg (Lane.or Lane.av Lane.au)) Lane.au tt tt a hv hu)
 
 -- the rule on two words that hold word k of f and of g is word k of the joined bits
 pub joined-word : (r : LogicBit → LogicBit → LogicBit) (f g : ℕ → LogicBit) (k : ℕ) (a b : Word)
@@ -101,7 +101,7 @@ joined-word r f g k a b ha hb =
 
 -- a word that is read straight from the planes of an operand, below its width
 pub direct : (w : ℕ) (v u : List ℕ) (b : LogicBit) (k : ℕ) → k * 64 + 64 ≤ w → (j : ℕ) → j < 64
-    → bitOf (wordBy (getD v k 0) (getD u k 0)) j ≡ getD (fromPlanes w v u) (k * 64 + j) b
+    → bitOf (wordIn (lent v u) k) j ≡ getD (fromPlanes w v u) (k * 64 + j) b
 direct w v u b k h j l =
     ap₂ stored (plane-bit v k j l) (plane-bit u k j l)
     ∙ sym (getD-tabulate w (λ i. stored (planeBit v i) (planeBit u i)) (k * 64 + j) b (omega arith))

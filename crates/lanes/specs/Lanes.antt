@@ -1,5 +1,5 @@
 -- The rules on single bits (document 01, "Bit code"; IEEE 1800-2017, 11.4.8 and 11.4.11) at each of the 64 places of a word of both planes
--- (document 01, "Planes"); not also in the numbers of the words (document 02, point 4).
+-- (document 01, "Planes"); not, and where a known 1 stands, in the numbers of the words (document 02, point 4).
 use Prim.Native.Nat.{ℕ}
 use lib.Bits.{bitAnd, bitOr}
 use Rattle.bit.specs.declared.LogicBit.{LogicBit}
@@ -20,6 +20,10 @@ opBit Merge = mergeBit
 unfoldable pub laneWord : (LogicBit → LogicBit → LogicBit) → Word → Word → Word
 laneWord f a b = packed (λ j. f (bitOf a j) (bitOf b j))
 
--- not at the places where the mask has a one, and 0 elsewhere: known and 1 where neither number has a one, unknown where the second has one
+-- not at the places where the mask has a one, and 0 elsewhere: 1 where neither number has a one, x where the second has one
 abbrev pub notWord : Word → (mask : ℕ) → Word
 notWord x mask = wordBy (bitAnd (complement (bitOr (x .value) (x .unknown))) mask) (bitAnd (x .unknown) mask)
+
+-- a one at each place that is set in value and clear in unknown
+abbrev pub knownOnes : Word → ℕ
+knownOnes x = bitAnd (x .value) (complement (x .unknown))

@@ -1,9 +1,9 @@
 // The operators on single words: each of the 64 places by its single-bit rule, in a few word operations. One function for each operator,
-// and the choice among those of two words.
+// the choice among those of two words, and the places that hold a known 1.
 use words::Word;
 ghost use mathlib.Core.Path.{_≡_};
 ghost use Rattle.bit.specs.Rules.{andBit, orBit, xorBit, mergeBit};
-ghost use Rattle.lanes.specs.Lanes.{opBit, laneWord, notWord};
+ghost use Rattle.lanes.specs.Lanes.{opBit, laneWord, notWord, knownOnes};
 
 // An operator that joins two vectors place by place.
 pub enum Bitwise {
@@ -82,6 +82,13 @@ pub fn not_lanes(a: Word, mask: u64) -> Word
         value: !(v | u) & mask,
         unknown: u & mask,
     }
+}
+
+// A one at each place that holds a known 1.
+pub fn known_ones(a: Word) -> u64
+    ensures { λ r. ⌜ r ≡ knownOnes a ⌝ }
+{
+    a.value & !a.unknown
 }
 
 // The choice among the four that join, for callers that serve every operator with one loop; it holds no formula of its own.

@@ -23,7 +23,7 @@ use Rattle.words.proofs.Planes as planes
 use Rattle.words.proofs.Planes.{length-tabulate}
 use Rattle.words.proofs.Lanes.{Lane, word, gives}
 use Rattle.words.proofs.Lanes.Lane.{av, au, neg, or}
-use Rattle.reduce_words.specs.declared.Truth.the-variants.{False, True, Unknown}
+use Rattle.lanes.specs.Lanes.{knownOnes}
 use Rattle.reduce_words.specs.Fold.{anyOf, countOf, isUnknown, reduceAnd, reduceOr, reduceXor, truthOf, notZero, truthByWords}
 use Rattle.reduce_words.proofs.Gather.{gather, gather-cong, of-list}
 use Rattle.reduce_words.proofs.Marks.{mark, some-low}
@@ -42,14 +42,14 @@ any-low p e t x hv hu n m h mask =
     ∙ sym (any-tabulate p n (placeOf x))
 
 -- s: a known 1 stands in the word; u: an unknown bit
-pub truth-word : (x : Word) (s u : Bool) → notZero (bitAnd (x .value) (complement (x .unknown))) ≡ s → notZero (x .unknown) ≡ u → told s u ≡ truthByWords (single x)
+pub truth-word : (x : Word) (s u : Bool) → notZero (knownOnes x) ≡ s → notZero (x .unknown) ≡ u → told s u ≡ truthByWords (single x)
 unfolding tabulate
 truth-word x s u e f = sym (ap₂ told (or-false _ ∙ e) (or-false _ ∙ f))
 
 module _ (x : Word) (hv : x .value < 2 ^ 64) (hu : x .unknown < 2 ^ 64) where
   -- s: a known 0 stands below n; u: an unknown bit
   pub and-word : (n m : ℕ) → n ≤ 64 → m ≡ 2 ^ n - 1 → (s u : Bool)
-      → not (eqb (bitAnd ((2 ^ 64 - 1) - bitOr (x .value) (x .unknown)) m) 0) ≡ s → not (eqb (bitAnd (x .unknown) m) 0) ≡ u
+      → not (eqb (bitAnd (complement (bitOr (x .value) (x .unknown))) m) 0) ≡ s → not (eqb (bitAnd (x .unknown) m) 0) ≡ u
       → cond s Zero (cond u X One) ≡ reduceAnd (vectorOf n (single x))
   and-word n m h mask s u e f =
       ap₂ (λ (s u : Bool). cond s Zero (cond u X One))
@@ -101,4 +101,4 @@ module _ (w : ℕ) (x : Word) (hv : Plane w (x .value ∷ [])) (hu : Plane w (x 
   xor-narrow = ap₂ (λ (u : Bool) (n : ℕ). cond u X (cond (eqb (n % 2) 0) Zero One)) (any-narrow isUnknown refl) (count-narrow (same One) refl)
 
   pub truth-narrow : truthOf (vectorOf w (single x)) ≡ truthOf (vectorOf 64 (single x))
-  truth-narrow = ap₂ (λ (s u : Bool). cond s True (cond u Unknown False)) (any-narrow (same One) refl) (any-narrow isUnknown refl)
+  truth-narrow = ap₂ told (any-narrow (same One) refl) (any-narrow isUnknown refl)

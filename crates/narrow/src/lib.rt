@@ -53,9 +53,8 @@ pub fn truth(a: Word) -> Truth
     ensures { λ r. ⌜ r ≡ truthByWords (single a) ⌝ }
     ensures { λ r. ⌜ r ≡ truthOf (vectorOf 64 (single a)) ⌝ }
 {
-    let v = a.value;
     let u = a.unknown;
-    if (v & !u) != 0 {
+    if lanes::known_ones(a) != 0 {
         return Truth::True;
     }
     if u != 0 {

@@ -3,14 +3,14 @@
 use mathlib.Core.Bool.{Bool, true, false, not, _||_, cond}
 use mathlib.Core.List.{List, [], _∷_}
 use Prim.Native.Nat.{ℕ, _+_, _%_}
-use lib.Bits.{bitAnd}
 use lib.Dec.{eqb}
-use lib.ListN.{length, getD}
+use lib.ListN.{length}
 use Rattle.bit.specs.declared.LogicBit.{LogicBit}
 use Rattle.bit.specs.declared.LogicBit.the-variants.{Zero, One, X}
 use Rattle.bit.specs.Rules.{same, known}
 use Rattle.words.specs.Vector.{tabulate}
-use Rattle.words.specs.Planes.{Planes, complement}
+use Rattle.words.specs.Planes.{Planes, wordIn}
+use Rattle.lanes.specs.Lanes.{knownOnes}
 use Rattle.reduce_words.specs.declared.Truth.{Truth}
 use Rattle.reduce_words.specs.declared.Truth.the-variants.{False, True, Unknown}
 
@@ -58,12 +58,12 @@ abbrev pub notZero : ℕ → Bool
 notZero x = not (eqb x 0)
 
 -- of each word the places that are set in value and clear in unknown
-abbrev pub knownOnes : Planes → List ℕ
-knownOnes p = tabulate (length (p .value)) (λ k. bitAnd (getD (p .value) k 0) (complement (getD (p .unknown) k 0)))
+abbrev pub onesByWords : Planes → List ℕ
+onesByWords p = tabulate (length (p .value)) (λ k. knownOnes (wordIn p k))
 
 -- true if some word has such a place, else unknown if some unknown word is not 0, else false
 abbrev pub truthByWords : Planes → Truth
-truthByWords p = cond (anyOf notZero (knownOnes p)) True (cond (anyOf notZero (p .unknown)) Unknown False)
+truthByWords p = cond (anyOf notZero (onesByWords p)) True (cond (anyOf notZero (p .unknown)) Unknown False)
 
 -- a truth as a bit, x where it is unknown
 abbrev pub truthBit : Truth → LogicBit

@@ -1,12 +1,15 @@
 // The reductions and truth by words. These ask their caller for planes that were checked.
 use crate::Truth;
 use bit::LogicBit;
+use lanes::known_ones;
+use words::Word;
 use words::unchecked::ones;
 ghost use mathlib.Core.Path.{_≡_};
 ghost use Rattle.words.specs.Planes.{fromPlanes, lentBy, Plane};
 ghost use Rattle.reduce_words.specs.Fold.{reduceAnd, reduceOr, reduceXor, truthOf, truthByWords};
 
-// True on a known 1, else unknown on an unknown bit, else false. By words, and by bits.
+// True on a known 1, else unknown on an unknown bit, else false. By words, and by bits: the width is told for these alone, since no place
+// at or above it is set.
 pub fn truth(width: u32, value: &[u64], unknown: &[u64]) -> Truth
     requires { ⌜ Plane width (now value) ⌝ }
     requires { ⌜ Plane width (now unknown) ⌝ }
@@ -16,8 +19,12 @@ pub fn truth(width: u32, value: &[u64], unknown: &[u64]) -> Truth
     let mut seen = 0;
     let mut k = 0;
     while k < value.len() {
-        let u = unknown[k];
-        if (value[k] & !u) != 0 {
+        let a = Word {
+            value: value[k],
+            unknown: unknown[k],
+        };
+        let u = a.unknown;
+        if known_ones(a) != 0 {
             return Truth::True;
         }
         seen = seen | u;

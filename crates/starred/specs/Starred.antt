@@ -213,7 +213,7 @@ infixl 85 _counts_
 abbrev _counts_ : Truth → Truth → Case Truth
 given counts said = record { given = given; said = said }
 
--- truth by the words of one or two planes: 0, 1, x and z alone, beside each other, and in two words
+-- truth by the words of planes of one or two words: 0, 1, x and z alone, beside each other, and in either word
 abbrev pub pointFourTruth : List (Case Truth)
 pointFourTruth =
     truthByWords (lent (0 ∷ []) (0 ∷ [])) counts truth.False
@@ -224,6 +224,7 @@ pointFourTruth =
     ∷ truthByWords (lent (ones ∷ []) (ones ∷ [])) counts truth.Unknown
     ∷ truthByWords (lent (0 ∷ 0 ∷ []) (0 ∷ 0 ∷ [])) counts truth.False
     ∷ truthByWords (lent (0 ∷ 0 ∷ []) (1 ∷ 0 ∷ [])) counts truth.Unknown
+    ∷ truthByWords (lent (0 ∷ 0 ∷ []) (0 ∷ 1 ∷ [])) counts truth.Unknown
     ∷ truthByWords (lent (0 ∷ 1 ∷ []) (1 ∷ 0 ∷ [])) counts truth.True
     ∷ truthByWords (lent (1 ∷ 2 ∷ []) (1 ∷ 2 ∷ [])) counts truth.Unknown
     ∷ []

@@ -40,6 +40,6 @@ truthAnswer (truth-answer.Refused r) = refused (refusalNumber r)
 abbrev pub isNonzero : Operand → Planes → Answer Truth
 isNonzero o p = after (checkOperand o p) (given (operandTruth o p))
 
--- of a vector it is the truth of its words (document 02, point 4); stated of every call
+-- of a vector it is the truth of its words (document 02, point 4): stated of every call, since the words of what is lent have 64 bits
 abbrev pub TruthByWords : Type 0
 TruthByWords = (h : Header) (p : Planes) → Words64 p → isNonzero (Vector h) p ≡ after (checkVector h p) (given (truthByWords p))

@@ -124,7 +124,7 @@ pub record Words64 (p : Planes) : Type 0 where
   pub value-words : (k : ℕ) → getD (p .value) k 0 < 2 ^ 64
   pub unknown-words : (k : ℕ) → getD (p .unknown) k 0 < 2 ^ 64
 
--- word k of both planes
+-- word k of two planes that are lent
 abbrev pub wordIn : Planes → ℕ → Word
 wordIn p k = wordBy (getD (p .value) k 0) (getD (p .unknown) k 0)
 

@@ -126,7 +126,8 @@ loop-again c =
     let l = turn t in (
       omega arith,
       l .loop .inv .1
-          ∙ more (zeros l) (unknowns l) (l .loop .seen) (l .loop .k) (long l (l .loop .k) (inside t)) (long-unknown l (l .loop .k) (inside t)) (marks t ∙ c .if1 .left),
+          ∙ more (zeros l) (unknowns l) (l .loop .seen) (l .loop .k) (long l (l .loop .k) (inside t)) (long-unknown l (l .loop .k) (inside t))
+          (marks t ∙ c .if1 .left),
     )
 
 returns-2 : tie.Need-returns-2 Inv-loop μ-loop
