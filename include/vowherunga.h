@@ -96,7 +96,7 @@ typedef struct {
     uint64_t unknown;
 } vowherunga_word;
 
-// In each result below `refusal` is 0 where the call was done; but for a run's, the other fields are 0 where it was not.
+// In each result below that has one, `refusal` is 0 where the call was done; but for a run's, the other fields are 0 where it was not.
 
 // The code of a bit or of a truth.
 typedef struct {
@@ -133,6 +133,12 @@ typedef struct {
     uint8_t refusal;
     size_t length;
 } vowherunga_length_result;
+
+// A part of one of two arms: whether of the second, and how many words it has, from that arm's beginning on. Nothing is refused.
+typedef struct {
+    bool is_second;
+    size_t length;
+} vowherunga_arm_result;
 
 // The number of the new cell: the store has one cell more than that.
 typedef struct {
@@ -288,6 +294,13 @@ vowherunga_decision_result vowherunga_decide_equal_vectors(vowherunga_header a, 
 vowherunga_decision_result vowherunga_decide_wildcard(vowherunga_header a, const uint64_t *av, size_t av_len, const uint64_t *au,
                                                       size_t au_len, vowherunga_header b, const uint64_t *bv, size_t bv_len,
                                                       const uint64_t *bu, size_t bu_len);
+
+// ---- The arm that a condition picks, as a part of the caller's own plane: never refused, whatever lengths the planes have.
+
+// Of one plane of each arm true (code 1) gives all of the first, false (0) all of the second, unknown (2 or 3) the empty beginning of the first; a
+// code is taken modulo 4. With the answer r the part is r.length words from `r.is_second ? second : first` on.
+vowherunga_arm_result vowherunga_chosen_arm(uint8_t truth, const uint64_t *first, size_t first_len, const uint64_t *second,
+                                            size_t second_len);
 
 // ---- Word forms: the operators on vectors of at most 64 bits by value, without a check. They see neither widths nor marks: two operands are
 // extended by 0, and no fill is stretched. So they stand for the operators where neither operand is a fill and the two are not both signed

@@ -15,12 +15,13 @@ fn place(variable: &str, default: &str) -> PathBuf {
 }
 
 /// The crates whose exports the binding calls.
-const LIBRARIES: [&str; 9] = [
+const LIBRARIES: [&str; 10] = [
     "ffi",
     "ffi_answers",
     "ffi_decide",
     "ffi_decide_vectors",
     "ffi_decide_wildcard",
+    "ffi_arm",
     "ffi_words",
     "ffi_literal",
     "ffi_store",

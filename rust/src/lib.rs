@@ -46,12 +46,14 @@
 //!
 //! The functions take planes by their position. [`VectorRef`] and [`PlanesMut`] hold them under their names, so that a value plane is not
 //! taken for an unknown one, and have each operator as a method. Equality and wildcard equality can also tell which [`Rule`] decided them.
+//! The arm that a truth picks comes back as a part of the caller's own plane ([`arm`]).
 //!
 //! Vectors can be read from sized literals such as `8'hzx` and written as such ([`literal`]). They can be kept as the cells of a [`store`], and a
 //! whole list of steps on them can be run from its text ([`steps::run`]).
 //!
 //! The feature `reference` adds the Rust program whose behaviour the library keeps but for what was requested since, for comparisons; it needs
 //! that program's source and one static library more.
+pub mod arm;
 mod bit;
 pub mod bitwise;
 pub mod compare;

@@ -42,6 +42,12 @@ pub struct LengthResult {
     pub length: usize,
 }
 
+#[repr(C)]
+pub struct ArmResult {
+    pub is_second: bool,
+    pub length: usize,
+}
+
 // ffi/src/bits.rt
 extern "C" {
     pub fn vowherunga_get(width: u32, value: *const u64, value_len: usize, unknown: *const u64, unknown_len: usize, i: usize) -> BitResult;
@@ -190,6 +196,11 @@ alike! {
         bv: *const u64, bv_len: usize,
         bu: *const u64, bu_len: usize
     )
+}
+
+// ffi_arm/src/lib.rt
+extern "C" {
+    pub fn vowherunga_chosen_arm(truth: u8, first: *const u64, first_len: usize, second: *const u64, second_len: usize) -> ArmResult;
 }
 
 // ffi_words/src/lib.rt

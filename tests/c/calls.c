@@ -103,6 +103,28 @@ static void decisions(void)
     EXPECT(d.refusal == VOWHERUNGA_REFUSAL_PLANE_LENGTH && d.bit == 0 && d.rule == 0 && d.place == 0);
 }
 
+// Whether an answer tells so many words of the first arm, or of the second.
+static bool part(vowherunga_arm_result r, bool is_second, size_t length)
+{
+    return r.is_second == is_second && r.length == length;
+}
+
+// Planes of three words and of one, and empty ones; the truth of 0x, which is unknown; codes above 3.
+static void arms(void)
+{
+    const uint64_t first[3] = {1, 2, 3}, second[1] = {4}, zero[1] = {0}, one[1] = {1};
+    EXPECT(part(vowherunga_chosen_arm(VOWHERUNGA_BIT_ONE, first, 3, second, 1), false, 3));
+    EXPECT(part(vowherunga_chosen_arm(VOWHERUNGA_BIT_ZERO, first, 3, second, 1), true, 1));
+    EXPECT(part(vowherunga_chosen_arm(VOWHERUNGA_BIT_X, first, 3, second, 1), false, 0));
+    EXPECT(part(vowherunga_chosen_arm(VOWHERUNGA_BIT_Z, first, 3, second, 1), false, 0));
+    EXPECT(part(vowherunga_chosen_arm(VOWHERUNGA_BIT_ONE, first, 0, second, 1), false, 0));
+    EXPECT(part(vowherunga_chosen_arm(VOWHERUNGA_BIT_ZERO, first, 3, second, 0), true, 0));
+    EXPECT(part(vowherunga_chosen_arm(4, first, 3, second, 1), true, 1));
+    EXPECT(part(vowherunga_chosen_arm(253, first, 3, second, 1), false, 3));
+    vowherunga_bit_result truth = vowherunga_is_nonzero(false, signed_two, 0.0, zero, 1, one, 1);
+    EXPECT(truth.refusal == 0 && part(vowherunga_chosen_arm(truth.bit, first, 3, second, 1), false, 0));
+}
+
 static size_t starts[VOWHERUNGA_MAX_CELLS];
 static uint32_t widths[VOWHERUNGA_MAX_CELLS];
 static bool signs[VOWHERUNGA_MAX_CELLS];
@@ -186,6 +208,7 @@ int main(void)
     planes();
     operators();
     decisions();
+    arms();
     store();
     runs();
     literals();

@@ -14,7 +14,7 @@ same() {
 
 # ---- calls
 set --
-for library in ffi ffi_answers ffi_decide ffi_decide_vectors ffi_decide_wildcard ffi_words ffi_literal ffi_store ffi_run; do set -- "$@" "$ROOT/target/staticlib/lib$library.a"; done
+for library in ffi ffi_answers ffi_decide ffi_decide_vectors ffi_decide_wildcard ffi_arm ffi_words ffi_literal ffi_store ffi_run; do set -- "$@" "$ROOT/target/staticlib/lib$library.a"; done
 gcc -std=c11 -Wall -Wextra -Werror -pedantic -I "$ROOT/include" "$ROOT/tests/c/calls.c" "$@" -o calls && ./calls || failed=1
 if command -v g++ >compiler; then
     g++ -std=c++11 -Wall -Wextra -Werror -pedantic -fsyntax-only -x c++ "$header" || failed=1
@@ -22,8 +22,8 @@ fi
 
 # ---- what each declares
 
-# flat: the text without comments, on one line, without blanks in front of brackets and inside them
-flat() { sed 's,//.*,,' | tr -s ' \n' ' ' | sed 's/ *\([({]\) */\1/g; s/,* *\([)}]\)/\1/g'; }
+# flat: the text without comments and lifetimes, on one line, without blanks in front of brackets and inside them
+flat() { sed "s,//.*,,; s/<'a>//; s/&'a /\&/g" | tr -s ' \n' ' ' | sed 's/ *\([({]\) */\1/g; s/,* *\([)}]\)/\1/g'; }
 # in_c: each function and each struct of flat Rust or Rattle as a line of C. A slice is a pointer and a length; `alike!` gives one list of
 # parameters to several names, of which each run has an answer behind it; a function is brought to that form.
 in_c() {
@@ -101,7 +101,7 @@ sed -n 's/.* \(vowherunga_[a-z0-9_]*\)(.*/\1/p' header >names
 same names archives
 
 # nothing was passed over
-for list in 'names 52' 'header 61' 'header_numbers 41'; do
+for list in 'names 53' 'header 63' 'header_numbers 41'; do
     [ "$(wc -l <"${list% *}")" -ge "${list#* }" ] || { printf 'there are fewer %s\n' "$list" && failed=1; }
 done
 [ "$failed" -eq 0 ]

@@ -116,11 +116,20 @@ decisions() {
     spoil '^!4 = decide_equal 000 ' 's/!4\(.*\) f0:1:1:/!2\1 3:66:1:/' 's/!4\(.*\) f0:1:1:/!2\1 3:1:66:/'
 }
 
+# the words of each plane, how many they are, the arm and the condition
+arms() {
+    spoil '^1x0 = chosen_arm .* 1$' 's/^1/0/' 's/^1/z/' 's/^1x0/3:2:1:1x0/' 's/^1x0/3:1:2:1x0/' 's/1$/0/' 's/1$/x/' 's/ 1$//'
+    spoil '^0z11 = chosen_arm .* 0$' 's/^0/1/' 's/^0/x/' 's/m \([^ ]*\) \([^ ]*\)/m \2 \1/' 's/0$/1/' 's/0$/z/' 's/0$/f0:1:1:/'
+    spoil '^0:0:0: = chosen_arm 1x0 .* x$' 's/^0:0:0:/0:1:0:/' 's/^0:0:0:/0:0:1:/' 's/^0:0:0:/1x0/' 's/x$/f0:1:1:/'
+    spoil '^65:2:2:z1 = ' 's/:2:2:/:1:2:/' 's/:2:2:/:2:1:/' 's/chosen_arm/chosen/'
+    spoil '^0:0:0: = chosen_arm 0:0:0: 1x x' 's/m 0:0:0:/m 0:16386:0:/' 's/m 0:0:0:/m 0:0:16386:/' 's/1x/0:66:0:/' 's/1x/0:0:66:/'
+}
+
 # work: the program on the tables that stand here
 work() { "$BIN/worked_cases" >said || exit 1; }
 
 data=$ROOT/crates/worked_cases/data
-for kind in bits constructors vectors answer_bits decisions; do
+for kind in bits constructors vectors answer_bits decisions arms; do
     tables=$(cd "$data" && find worked answers -name "$kind") || exit 1
     cp -R "$data"/* . && : >spoiled || exit 1
     $kind

@@ -1,5 +1,6 @@
 // The entries of documents 01 and 02 and their types in one list, which `fourstate` sorts by module. A crate that uses the crate `bit`
 // cannot have a module `bit`, so the list and the modules are two crates.
+pub use arm::chosen_arm;
 pub use bit::LogicBit;
 pub use bit::and;
 pub use bit::from_code;

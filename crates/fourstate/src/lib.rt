@@ -1,4 +1,4 @@
-// Four-state values: the public interface on one page, by the modules of document 01, and `literal` for document 02. An entry takes
+// Four-state values: the public interface on one page, by the modules of document 01, and `arm` and `literal` for document 02. An entry takes
 // whatever it is handed, and gives its result or one refusal, which leaves what it found. Contracts and the fields of types stand in the
 // crates that `entries` names. A crate that calls an entry also lists in crates.txt the crates that declare the types of its arguments and
 // its answer.
@@ -133,6 +133,12 @@ pub mod compare {
     pub use entries::decide_equal;
     // The answer of `wildcard_eq`, and the rule.
     pub use entries::decide_wildcard;
+}
+
+// The arm that a condition picks, as a part of the caller's own plane.
+pub mod arm {
+    // Of two planes all of the first if the truth is true, all of the second if it is false, else the empty beginning of the first.
+    pub use entries::chosen_arm;
 }
 
 // Sized literals such as 8'hzx, read into lent planes and written into a lent text.

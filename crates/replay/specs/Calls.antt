@@ -25,12 +25,12 @@ abbrev pub callNames : List ℕ
 callNames =
     bytes "get extract64 set splice64 splice_bits64 mask_top new zero from_u64 from_real_wrapped reduce_and reduce_or reduce_xor "
     ++ bytes "is_nonzero logic_and logic_or is_equal case_eq casez_eq casex_eq wildcard_eq "
-    ++ bytes "bitwise_and bitwise_or bitwise_xor merge_unknown bitwise_not decide_equal decide_wildcard"
+    ++ bytes "bitwise_and bitwise_or bitwise_xor merge_unknown bitwise_not decide_equal decide_wildcard chosen_arm"
 
 -- whether field k of a line asks for planes of at most n words
 abbrev pub fitsIn : ℕ → ℕ → List ℕ → Bool
 fitsIn k n line = leb (sizesOf (fieldText k line) .value) n && leb (sizesOf (fieldText k line) .unknown) n
 
--- the number of the call, which field 2 names; 28, which is none, where a vector asks for more words than a program lends
+-- the number of the call, which field 2 names; 29, which is none, where a vector asks for more words than a program lends
 unfoldable pub callOf : List ℕ → ℕ
-callOf line = cond (fitsIn 3 16385 line && (fitsIn 4 65 line && fitsIn 5 65 line)) (nameFrom 0 28 callNames (fieldText 2 line)) 28
+callOf line = cond (fitsIn 3 16385 line && (fitsIn 4 65 line && fitsIn 5 65 line)) (nameFrom 0 29 callNames (fieldText 2 line)) 29

@@ -18,17 +18,18 @@
 //     VECTOR = from_u64 OUT NUMBER             BIT = case_eq VECTOR VECTOR, and so casez_eq, casex_eq, wildcard_eq
 //     BIT = decide_equal OPERAND OPERAND RULE PLACE
 //     BIT = decide_wildcard VECTOR VECTOR RULE PLACE
+//     VECTOR = chosen_arm VECTOR VECTOR CONDITION
 //
 // OUT is what the planes lent for a result hold before the call. A call that writes and answers no vector is answered by the bits that it
-// leaves, where leading zeros may be left out; CHANGED is 1 or 0. RULE and PLACE are numbers as in `abi::DecisionResult`. Where a call is
-// refused, the answer is `!` and the number of the refusal, and the planes lent for writing hold what they held; RULE and PLACE are then
-// not read.
+// leaves, where leading zeros may be left out; CHANGED is 1 or 0. RULE and PLACE are numbers as in `abi::DecisionResult`. The truth of
+// CONDITION, a vector or a real, picks an arm in each plane, and the answer has exactly the words of both. Where a call is refused, the
+// answer is `!` and the number of the refusal, and the planes lent for writing hold what they held; RULE and PLACE are then not read.
 //
 // Every text is read, whatever it holds. A field or a part that is not there is empty. A character's digit is its lowest four bits; a
 // number is taken modulo 2^64, a width modulo 2^32, and an empty number is 0. A character that is none of 0 1 x z is the bit 0. A field
 // with an `r` in it is taken for a real, which has no planes and is negative if there is a minus in it, and one with a `!` in it for a
 // refusal. Field 1 and fields behind those of the call are not read. A name that is none, and a call whose first operand asks for more
-// than 16,385 words or another for more than 65, has the number 28 of no call. Of what a call leaves 65 words are told, and zeros behind
+// than 16,385 words or another for more than 65, has the number 29 of no call. Of what a call leaves 65 words are told, and zeros behind
 // them.
 mod parse;
 pub mod unchecked;

@@ -77,13 +77,13 @@ fn number_in(names: &[u8], n: usize, name: &[u8]) -> usize
 
 // The number of a call: the place of its name here, or the count of names.
 pub(crate) fn number_of(name: &[u8]) -> usize
-    ensures { λ r. ⌜ r ≡ nameFrom 0 28 callNames (now (name .entry)) ⌝ }
+    ensures { λ r. ⌜ r ≡ nameFrom 0 29 callNames (now (name .entry)) ⌝ }
 {
     number_in(
         b"get extract64 set splice64 splice_bits64 mask_top new zero from_u64 from_real_wrapped \
         reduce_and reduce_or reduce_xor is_nonzero logic_and logic_or is_equal case_eq casez_eq casex_eq wildcard_eq \
-        bitwise_and bitwise_or bitwise_xor merge_unknown bitwise_not decide_equal decide_wildcard",
-        28,
+        bitwise_and bitwise_or bitwise_xor merge_unknown bitwise_not decide_equal decide_wildcard chosen_arm",
+        29,
         name,
     )
 }

@@ -49,19 +49,19 @@ pub fn line_end(s: &[u8], at: usize) -> usize
     until(s, at, b'\n')
 }
 
-// The number of the call of a line, by its place in `parse::number_of`. It is 28, which is none, where the name is none, and where a
+// The number of the call of a line, by its place in `parse::number_of`. It is 29, which is none, where the name is none, and where a
 // vector asks for more words than are lent: 16,385 for the first operand, 65 for the others.
 pub fn call_of(line: &[u8]) -> usize
     ensures { λ r. ⌜ r ≡ callOf (now (line .entry)) ⌝ }
 {
     if !fits(line, 3, 16385) {
-        return 28;
+        return 29;
     }
     if !fits(line, 4, 65) {
-        return 28;
+        return 29;
     }
     if !fits(line, 5, 65) {
-        return 28;
+        return 29;
     }
     number_of(part(line, 2, b' '))
 }

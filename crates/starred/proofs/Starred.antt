@@ -3,7 +3,7 @@ use mathlib.Core.Path.{refl}
 use lib.Ieee.{ofInt, ofBits, eq}
 use Rattle.words.specs.Vector.{tabulate, pack}
 use Rattle.real_equal.specs.Numeric.{vectorInteger}
-use Rattle.starred.specs.Starred.{Hold, starred, pointTwo, pointThree, pointFourNot, pointFourTruth}
+use Rattle.starred.specs.Starred.{Hold, starred, pointTwo, pointThree, pointFourNot, pointFourTruth, pointFive}
 
 pub starred-hold : Hold starred
 unfolding tabulate
@@ -24,3 +24,6 @@ point-four-not-hold = refl
 pub point-four-truth-hold : Hold pointFourTruth
 unfolding tabulate
 point-four-truth-hold = refl
+
+pub point-five-hold : Hold pointFive
+point-five-hold = refl

@@ -1,4 +1,4 @@
--- The cases of document 01, "Cases on either side", that are marked with a star, and cases of document 02, points 2 to 4, over the definitions
+-- The cases of document 01, "Cases on either side", that are marked with a star, and cases of document 02, points 2 to 5, over the definitions
 -- that the contracts cite. A vector is written highest bit first, each bit by its code: 0, 1, x or z; a plane as its words, lowest first.
 use mathlib.Core.Path.{_≡_}
 use mathlib.Core.Bool.{Bool, true, false, cond}
@@ -27,6 +27,7 @@ use Rattle.decide.specs.declared.Rule.the-variants.{KnownMismatch, Unknown, All
 use Rattle.decide.specs.declared.Decision.{Decision}
 use Rattle.decide.specs.Rule.{everyPlace, rightKnown, ruleOf}
 use Rattle.decide.specs.Decide.{decision, equalRule}
+use Rattle.arm.specs.Arm.{Part, chosenArm}
 
 abbrev x : ℕ
 x = 2
@@ -227,4 +228,28 @@ pointFourTruth =
     ∷ truthByWords (lent (0 ∷ 0 ∷ []) (0 ∷ 1 ∷ [])) counts truth.Unknown
     ∷ truthByWords (lent (0 ∷ 1 ∷ []) (1 ∷ 0 ∷ [])) counts truth.True
     ∷ truthByWords (lent (1 ∷ 2 ∷ []) (1 ∷ 2 ∷ [])) counts truth.Unknown
+    ∷ []
+
+-- ---- an arm
+
+infixl 85 _hands_
+abbrev _hands_ : Part → Part → Case Part
+given hands said = record { given = given; said = said }
+
+-- words of the block b, from its offset o on
+abbrev plane : ℕ → ℕ → List ℕ → Part
+plane b o words = record { start = (b, o); words = words }
+
+-- the words that come back and where they lie: of planes of one length and of two, of empty ones, and of two that lie in one block
+abbrev pub pointFive : List (Case Part)
+pointFive =
+    chosenArm truth.True (plane 7 0 (1 ∷ 2 ∷ [])) (plane 9 0 (3 ∷ 4 ∷ [])) hands plane 7 0 (1 ∷ 2 ∷ [])
+    ∷ chosenArm truth.False (plane 7 0 (1 ∷ 2 ∷ [])) (plane 9 0 (3 ∷ 4 ∷ [])) hands plane 9 0 (3 ∷ 4 ∷ [])
+    ∷ chosenArm truth.Unknown (plane 7 0 (1 ∷ 2 ∷ [])) (plane 9 0 (3 ∷ 4 ∷ [])) hands plane 7 0 []
+    ∷ chosenArm truth.True (plane 7 8 (1 ∷ [])) (plane 7 24 (2 ∷ 3 ∷ 4 ∷ [])) hands plane 7 8 (1 ∷ [])
+    ∷ chosenArm truth.False (plane 7 8 (1 ∷ [])) (plane 7 24 (2 ∷ 3 ∷ 4 ∷ [])) hands plane 7 24 (2 ∷ 3 ∷ 4 ∷ [])
+    ∷ chosenArm truth.Unknown (plane 7 8 (1 ∷ [])) (plane 7 24 (2 ∷ 3 ∷ 4 ∷ [])) hands plane 7 8 []
+    ∷ chosenArm truth.True (plane 7 0 []) (plane 9 0 (5 ∷ [])) hands plane 7 0 []
+    ∷ chosenArm truth.False (plane 7 0 (5 ∷ [])) (plane 9 0 []) hands plane 9 0 []
+    ∷ chosenArm truth.Unknown (plane 7 0 []) (plane 9 0 (5 ∷ [])) hands plane 7 0 []
     ∷ []

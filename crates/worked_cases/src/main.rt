@@ -5,8 +5,10 @@
 //
 //     cargo run --offline --manifest-path rust/Cargo.toml --features reference --bin answers bits >crates/worked_cases/data/answers/bits
 //
-// makes the first of these, and so the others: constructors, vectors, answer_bits. Decisions have none: the reference tells no rule.
+// makes the first of these, and so the others: constructors, vectors, answer_bits. Decisions and arms have none: the reference tells no
+// rule and hands back no arm.
 mod answer_bits;
+mod arms;
 mod bits;
 mod constructors;
 mod decisions;
@@ -39,6 +41,9 @@ fn has_answer(call: usize, line: &[u8], a: Field, value: &mut [u64], unknown: &m
     }
     if call < 28 {
         return decisions::decides(call, line, a, value, unknown);
+    }
+    if call < 29 {
+        return arms::chooses(line, value, unknown);
     }
     false
 }
@@ -91,4 +96,5 @@ fn main() {
     work_both(b"worked/vectors", b"answers/vectors");
     work_both(b"worked/answer_bits", b"answers/answer_bits");
     work(b"worked/decisions", true);
+    work(b"worked/arms", true);
 }

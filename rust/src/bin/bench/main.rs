@@ -1,5 +1,5 @@
 //! The reference and the library side by side, in one run of about a minute; prints the figures of docs/PERFORMANCE.md. Words on the command
-//! line name the operators to run, all without any; the copy, the runs of step lists, the literals and the forms bit by bit are always taken.
+//! line name the operators to run, all without any; the copy, the runs of step lists, the literals, the forms bit by bit and the arms are always taken.
 //!
 //! reference: the operator of `Value`, which allocates its result where that is wider than 64 bits; the drop is in the time too.
 //! ours: the function over planes, every check included, into planes that are lent again for each call.
@@ -8,12 +8,14 @@
 //! Each side finds its operands behind a pointer.
 //! Inputs are known, or mixed: half of the bits unknown. Those of comparisons, reductions and truth are such that the scan goes to the end:
 //! equal operands; all 1 or all 0 but for unknown bits; for the reduction by xor only the top bit is unknown.
+mod arms;
 mod by_bits;
 mod inputs;
 mod literals;
 mod race;
 mod runs;
 
+use arms::Arms;
 use by_bits::ByBits;
 use inputs::{output, Input};
 use race::{Race, Side};
@@ -289,6 +291,7 @@ fn main() {
     let (mut listed, mut kept) = (runs::listed(list), runs::kept(store));
     let (named_literals, mut literals) = literals::read_and_written(&mut rng);
     let mut by_bits = ByBits::new();
+    let mut arms = Arms::new(&mut rng);
     for _ in 0..ROUNDS {
         rows.iter_mut().for_each(|row| row.race.round());
         copy.round();
@@ -296,6 +299,7 @@ fn main() {
         kept.round();
         literals.round();
         by_bits.round();
+        arms.round();
     }
     print_table(&rows, "reference", "ours");
     print_table(&rows, "reference", "by value");
@@ -324,4 +328,5 @@ fn main() {
         println!("{name} takes {ns:.0} ns.");
     }
     by_bits.print();
+    arms.print();
 }
