@@ -21,13 +21,14 @@ CODE = [
     (r" & ", " | "), (r" \| ", " & "), (r" \^ ", " | "), (r" % ", " / "), (r" / ", " % "), (r" >> ", " << "),
     (r"\btrue\b", "false"), (r"\bfalse\b", "true"), (r"\bLogicBit::X\b", "LogicBit::Z"), (r"\bLogicBit::Zero\b", "LogicBit::One"),
     (r"\bvalue\b(?=[,)])", "unknown"), (r"\bunknown\b(?=[,)])", "value"), (r"\bav\b(?=[,)\[])", "au"), (r"\bbu\b(?=[,)\[])", "bv"),
-    (r"(?<![\w\[;.])(\d+)(?![\w.])", None),
+    (r"(?<![\w\[;.])(\d+)(?![\w.])", None), (r"\bfirst\b(?=[,\[])", "second"), (r"\bsecond\b(?=[,\[)])", "first"),
 ]
 # what stands for what in a definition
 SPEC = [
     (r"\bZero\b", "One"), (r"\bOne\b", "Zero"), (r"\btrue\b", "false"), (r"\bfalse\b", "true"), (r"\bmax\b", "min"), (r"\bmin\b", "max"),
     (r"\bleb\b", "ltb"), (r"\bltb\b", "leb"), (r"\bandBit\b", "orBit"), (r"\borBit\b", "andBit"), (r" \.value\b", " .unknown"),
     (r" \.unknown\b", " .value"), (r" \+ ", " - "), (r" && ", " || "), (r" \|\| ", " && "), (r"(?<![\w.{])(\d+)(?![\w.}])", None),
+    (r"\bfirst$", "second"), (r"\bsecond$", "first"),
 ]
 
 

@@ -14,7 +14,9 @@ same() {
 
 # ---- calls
 set --
-for library in ffi ffi_answers ffi_decide ffi_decide_vectors ffi_decide_wildcard ffi_arm ffi_words ffi_literal ffi_store ffi_run; do set -- "$@" "$ROOT/target/staticlib/lib$library.a"; done
+for library in ffi ffi_answers ffi_decide ffi_decide_vectors ffi_decide_wildcard ffi_arm ffi_words ffi_literal ffi_store ffi_run; do
+    set -- "$@" "$ROOT/target/staticlib/lib$library.a"
+done
 gcc -std=c11 -Wall -Wextra -Werror -pedantic -I "$ROOT/include" "$ROOT/tests/c/calls.c" "$@" -o calls && ./calls || failed=1
 if command -v g++ >compiler; then
     g++ -std=c++11 -Wall -Wextra -Werror -pedantic -fsyntax-only -x c++ "$header" || failed=1

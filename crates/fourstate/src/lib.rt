@@ -1,7 +1,7 @@
-// Four-state values: the public interface on one page, by the modules of document 01, and `arm` and `literal` for document 02. An entry takes
-// whatever it is handed, and gives its result or one refusal, which leaves what it found. Contracts and the fields of types stand in the
-// crates that `entries` names. A crate that calls an entry also lists in crates.txt the crates that declare the types of its arguments and
-// its answer.
+// Four-state values: the public interface on one page, by the modules of document 01, and `arm` and `literal` for document 02. An entry
+// takes whatever it is handed, and gives its result or one refusal, which leaves what it found. Contracts and the fields of types stand in
+// the crates that `entries` names. A crate that calls an entry also lists in crates.txt the crates that declare the types of its arguments
+// and its answer.
 
 // A four-state bit and the single-bit rules.
 pub mod bit {

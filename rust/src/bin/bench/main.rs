@@ -1,5 +1,6 @@
 //! The reference and the library side by side, in one run of about a minute; prints the figures of docs/PERFORMANCE.md. Words on the command
-//! line name the operators to run, all without any; the copy, the runs of step lists, the literals, the forms bit by bit and the arms are always taken.
+//! line name the operators to run, all without any; the copy, the runs of step lists, the literals, the forms bit by bit and the arms are
+//! always taken.
 //!
 //! reference: the operator of `Value`, which allocates its result where that is wider than 64 bits; the drop is in the time too.
 //! ours: the function over planes, every check included, into planes that are lent again for each call.
