@@ -134,7 +134,7 @@ typedef struct {
     size_t length;
 } vowherunga_length_result;
 
-// A part of one of two arms: whether of the second, and how many words it has, from that arm's beginning on. Nothing is refused.
+// A part of one of two planes: whether of the second, and how many words it has, from that plane's beginning on.
 typedef struct {
     bool is_second;
     size_t length;
@@ -295,10 +295,11 @@ vowherunga_decision_result vowherunga_decide_wildcard(vowherunga_header a, const
                                                       size_t au_len, vowherunga_header b, const uint64_t *bv, size_t bv_len,
                                                       const uint64_t *bu, size_t bu_len);
 
-// ---- The arm that a condition picks, as a part of the caller's own plane: never refused, whatever lengths the planes have.
+// ---- The arm that a condition picks, as a part of the caller's own plane. Nothing is copied, read or refused, whatever lengths the planes have.
 
-// Of one plane of each arm true (code 1) gives all of the first, false (0) all of the second, unknown (2 or 3) the empty beginning of the first; a
-// code is taken modulo 4. With the answer r the part is r.length words from `r.is_second ? second : first` on.
+// `first` and `second` are one plane of each arm, so a vector takes two calls. The code of a truth picks all of the first if it is 1, all of the
+// second if it is 0, and the empty beginning of the first if it is 2 or 3, which are unknown; it is taken modulo 4. Of the answer r the part is
+// r.length words from `r.is_second ? second : first` on, never more than that plane has. Length 0 is unknown, or a chosen plane without words.
 vowherunga_arm_result vowherunga_chosen_arm(uint8_t truth, const uint64_t *first, size_t first_len, const uint64_t *second,
                                             size_t second_len);
 

@@ -1,8 +1,9 @@
 //! The arm that a condition picks, handed back without a copy.
 use crate::{raw, LogicBit, Truth};
 
-/// Of one plane of each arm the chosen one, as a part of the caller's own slice: all of `first` where the truth is true, all of `second`
-/// where it is false, and the empty beginning of `first` where it is unknown. The planes may have any lengths; nothing is refused.
+/// Given one plane of each arm, the chosen one as a part of the caller's own slice: all of `first` where the truth is true, all of `second`
+/// where it is false, and the empty beginning of `first` where it is unknown. The planes may have any lengths; no word is read, and nothing is
+/// refused. A vector takes two calls, one for each plane. An empty answer is an unknown truth, or a chosen plane without words.
 ///
 /// ```
 /// use vowherunga::{arm, Truth};

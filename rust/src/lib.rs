@@ -46,7 +46,7 @@
 //!
 //! The functions take planes by their position. [`VectorRef`] and [`PlanesMut`] hold them under their names, so that a value plane is not
 //! taken for an unknown one, and have each operator as a method. Equality and wildcard equality can also tell which [`Rule`] decided them.
-//! The arm that a truth picks comes back as a part of the caller's own plane ([`arm`]).
+//! The arm that a truth picks is handed back plane by plane, each a part of the caller's own slice ([`arm`]).
 //!
 //! Vectors can be read from sized literals such as `8'hzx` and written as such ([`literal`]). They can be kept as the cells of a [`store`], and a
 //! whole list of steps on them can be run from its text ([`steps::run`]).

@@ -45,7 +45,7 @@ fn is_the_callers_own_part() {
     }
 }
 
-/// Planes of the widest vector and longer ones, and slices that lie in no memory at all.
+/// Planes of the widest vector and longer ones, and empty slices of no memory.
 #[test]
 fn is_the_callers_own_at_any_length() {
     let words = word_count(vowherunga::MAX_WIDTH);
@@ -55,8 +55,10 @@ fn is_the_callers_own_at_any_length() {
             is_own(&memory, first.clone(), second.clone());
         }
     }
+    let none: [&[u64]; 2] = [&[], &Vec::new()];
     for t in TRUTHS {
-        assert!(chosen_arm(t, &[], &[]).is_empty());
+        let own = none[usize::from(t == Truth::False)];
+        assert_eq!(chosen_arm(t, none[0], none[1]).as_ptr_range(), own.as_ptr_range());
     }
 }
 

@@ -109,7 +109,7 @@ static bool part(vowherunga_arm_result r, bool is_second, size_t length)
     return r.is_second == is_second && r.length == length;
 }
 
-// Planes of three words and of one, and empty ones; the truth of 0x, which is unknown; codes above 3.
+// Planes of three words and of one, and empty ones; the part that is told; the truth of 0x, which is unknown; codes above 3.
 static void arms(void)
 {
     const uint64_t first[3] = {1, 2, 3}, second[1] = {4}, zero[1] = {0}, one[1] = {1};
@@ -119,6 +119,9 @@ static void arms(void)
     EXPECT(part(vowherunga_chosen_arm(VOWHERUNGA_BIT_Z, first, 3, second, 1), false, 0));
     EXPECT(part(vowherunga_chosen_arm(VOWHERUNGA_BIT_ONE, first, 0, second, 1), false, 0));
     EXPECT(part(vowherunga_chosen_arm(VOWHERUNGA_BIT_ZERO, first, 3, second, 0), true, 0));
+    vowherunga_arm_result r = vowherunga_chosen_arm(VOWHERUNGA_BIT_ONE, first, 3, second, 1);
+    const uint64_t *chosen = r.is_second ? second : first;
+    EXPECT(chosen == first && chosen[r.length - 1] == 3);
     EXPECT(part(vowherunga_chosen_arm(4, first, 3, second, 1), true, 1));
     EXPECT(part(vowherunga_chosen_arm(253, first, 3, second, 1), false, 3));
     vowherunga_bit_result truth = vowherunga_is_nonzero(false, signed_two, 0.0, zero, 1, one, 1);

@@ -6,7 +6,7 @@ use denote.Ref.{RefT, ptr, now}
 use Rattle.reduce_words.specs.declared.Truth.{Truth}
 use Rattle.reduce_words.specs.declared.Truth.the-variants.{False, True, Unknown}
 
--- words that lie one behind the other in memory: where the first of them lies, a block and an offset in it, and what they are
+-- words that lie one behind the other in memory: where the first of them lies, a block and an offset in bytes, and what they are
 pub record Part : Type 0 where
   pub start : ℕ × ℕ
   pub words : List ℕ

@@ -2,6 +2,7 @@
 use mathlib.Core.Path.{_≡_, refl, _∙_, ap}
 use mathlib.Core.Bool.{Bool}
 use Prim.Native.Nat.{ℕ}
+use native.Mathlib.Omega.{arith}
 use lib.ListN.{length}
 use lib.Seq.{take-length}
 use Rattle.reduce_words.specs.declared.Truth.{Truth}
@@ -16,9 +17,9 @@ reads-truth True = refl
 reads-truth Unknown = refl
 
 pub tells-arm : TellsArm
-tells-arm True first second = λ i. record { start = first .start; words = take-length (first .words) i }
-tells-arm False first second = λ i. record { start = second .start; words = take-length (second .words) i }
-tells-arm Unknown first second = refl
+tells-arm True first second = (λ i. record { start = first .start; words = take-length (first .words) i }, omega arith)
+tells-arm False first second = (λ i. record { start = second .start; words = take-length (second .words) i }, omega arith)
+tells-arm Unknown first second = (refl, omega arith)
 
 -- an answer is made of whether the truth picks the second arm and of the chosen part's length
 module _ (first second : Part) where

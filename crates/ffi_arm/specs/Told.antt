@@ -2,7 +2,7 @@
 use mathlib.Core.Path.{_≡_}
 use mathlib.Core.Bool.{Bool, true, false, cond}
 use mathlib.Core.List.{[], _∷_}
-use Prim.Native.Nat.{ℕ}
+use Prim.Native.Nat.{ℕ, _≤_}
 use lib.ListN.{length}
 use Rattle.bit.specs.Rules.{code, ofCode}
 use Rattle.reduce_words.specs.declared.Truth.{Truth}
@@ -27,10 +27,12 @@ picksSecond Unknown = false
 abbrev pub toldArm : Truth → Part → Part → ArmResult
 toldArm t first second = record { «is_second» = picksSecond t; length = length (chosenArm t first second .words) }
 
--- the part that an answer tells: its number of words, from the beginning of the arm on
-abbrev pub partTold : ArmResult → Part → Part → Part
-partTold r first second = beginning (r .length) (cond (r .«is_second») second first)
+-- the arm that an answer names
+abbrev pub armTold : ArmResult → Part → Part → Part
+armTold r first second = cond (r .«is_second») second first
 
--- it is the chosen arm
+-- the chosen part is so many words of that arm, from its beginning on, and it has them
 abbrev pub TellsArm : Type 0
-TellsArm = (t : Truth) (first second : Part) → partTold (toldArm t first second) first second ≡ chosenArm t first second
+TellsArm =
+    (t : Truth) (first second : Part) → let r : ArmResult = toldArm t first second in
+    (beginning (r .length) (armTold r first second) ≡ chosenArm t first second) × (r .length ≤ length (armTold r first second .words))

@@ -27,7 +27,7 @@ use Rattle.decide.specs.declared.Rule.the-variants.{KnownMismatch, Unknown, All
 use Rattle.decide.specs.declared.Decision.{Decision}
 use Rattle.decide.specs.Rule.{everyPlace, rightKnown, ruleOf}
 use Rattle.decide.specs.Decide.{decision, equalRule}
-use Rattle.arm.specs.Arm.{Part, chosenArm}
+use Rattle.arm.specs.Arm.{Part, partOf, chosenArm}
 
 abbrev x : ℕ
 x = 2
@@ -236,20 +236,24 @@ infixl 85 _hands_
 abbrev _hands_ : Part → Part → Case Part
 given hands said = record { given = given; said = said }
 
--- words of the block b, from its offset o on
+-- words of the block b, from its offset of o bytes on
+abbrev part : ℕ → ℕ → List ℕ → Part
+part b o words = record { start = (b, o); words = words }
+
+-- a slice of them that is lent
 abbrev plane : ℕ → ℕ → List ℕ → Part
-plane b o words = record { start = (b, o); words = words }
+plane b o words = partOf (record { ptr = (b, o); name = 0; now = words })
 
 -- the words that come back and where they lie: of planes of one length and of two, of empty ones, and of two that lie in one block
 abbrev pub pointFive : List (Case Part)
 pointFive =
-    chosenArm truth.True (plane 7 0 (1 ∷ 2 ∷ [])) (plane 9 0 (3 ∷ 4 ∷ [])) hands plane 7 0 (1 ∷ 2 ∷ [])
-    ∷ chosenArm truth.False (plane 7 0 (1 ∷ 2 ∷ [])) (plane 9 0 (3 ∷ 4 ∷ [])) hands plane 9 0 (3 ∷ 4 ∷ [])
-    ∷ chosenArm truth.Unknown (plane 7 0 (1 ∷ 2 ∷ [])) (plane 9 0 (3 ∷ 4 ∷ [])) hands plane 7 0 []
-    ∷ chosenArm truth.True (plane 7 8 (1 ∷ [])) (plane 7 24 (2 ∷ 3 ∷ 4 ∷ [])) hands plane 7 8 (1 ∷ [])
-    ∷ chosenArm truth.False (plane 7 8 (1 ∷ [])) (plane 7 24 (2 ∷ 3 ∷ 4 ∷ [])) hands plane 7 24 (2 ∷ 3 ∷ 4 ∷ [])
-    ∷ chosenArm truth.Unknown (plane 7 8 (1 ∷ [])) (plane 7 24 (2 ∷ 3 ∷ 4 ∷ [])) hands plane 7 8 []
-    ∷ chosenArm truth.True (plane 7 0 []) (plane 9 0 (5 ∷ [])) hands plane 7 0 []
-    ∷ chosenArm truth.False (plane 7 0 (5 ∷ [])) (plane 9 0 []) hands plane 9 0 []
-    ∷ chosenArm truth.Unknown (plane 7 0 []) (plane 9 0 (5 ∷ [])) hands plane 7 0 []
+    chosenArm truth.True (plane 7 0 (1 ∷ 2 ∷ [])) (plane 9 0 (3 ∷ 4 ∷ [])) hands part 7 0 (1 ∷ 2 ∷ [])
+    ∷ chosenArm truth.False (plane 7 0 (1 ∷ 2 ∷ [])) (plane 9 0 (3 ∷ 4 ∷ [])) hands part 9 0 (3 ∷ 4 ∷ [])
+    ∷ chosenArm truth.Unknown (plane 7 0 (1 ∷ 2 ∷ [])) (plane 9 0 (3 ∷ 4 ∷ [])) hands part 7 0 []
+    ∷ chosenArm truth.True (plane 7 8 (1 ∷ [])) (plane 7 24 (2 ∷ 3 ∷ 4 ∷ [])) hands part 7 8 (1 ∷ [])
+    ∷ chosenArm truth.False (plane 7 8 (1 ∷ [])) (plane 7 24 (2 ∷ 3 ∷ 4 ∷ [])) hands part 7 24 (2 ∷ 3 ∷ 4 ∷ [])
+    ∷ chosenArm truth.Unknown (plane 7 8 (1 ∷ [])) (plane 7 24 (2 ∷ 3 ∷ 4 ∷ [])) hands part 7 8 []
+    ∷ chosenArm truth.True (plane 7 0 []) (plane 9 0 (5 ∷ [])) hands part 7 0 []
+    ∷ chosenArm truth.False (plane 7 0 (5 ∷ [])) (plane 9 0 []) hands part 9 0 []
+    ∷ chosenArm truth.Unknown (plane 7 0 []) (plane 9 0 (5 ∷ [])) hands part 7 0 []
     ∷ []
