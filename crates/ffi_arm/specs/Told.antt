@@ -19,11 +19,13 @@ truthOfCode n = truthOf (ofCode n ∷ [])
 abbrev pub ReadsTruth : Type 0
 ReadsTruth = (t : Truth) → truthOfCode (code (truthBit t)) ≡ t
 
+-- whether the chosen arm is the second one
 abbrev pub picksSecond : Truth → Bool
 picksSecond True = false
 picksSecond False = true
 picksSecond Unknown = false
 
+-- the answer of the export: which arm, and how many words the chosen part has
 abbrev pub toldArm : Truth → Part → Part → ArmResult
 toldArm t first second = record { «is_second» = picksSecond t; length = length (chosenArm t first second .words) }
 

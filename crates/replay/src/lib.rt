@@ -22,9 +22,9 @@
 //
 // OUT is what the planes lent for a result hold before the call. A call that writes and answers no vector is answered by the bits that it
 // leaves, where leading zeros may be left out; CHANGED is 1 or 0. RULE and PLACE are numbers as in `abi::DecisionResult`. The truth of
-// CONDITION, a vector or a real, picks an arm; the planes of the answer have exactly the words of the two that come back. Where a call is
-// refused, the answer is `!` and the number of the refusal, and the planes lent for writing hold what they held; RULE and PLACE are then
-// not read.
+// CONDITION, a vector or a real, picks an arm; the planes of the answer have exactly the words of the two that come back, and a condition
+// that is refused has no answer. Where a call is refused, the answer is `!` and the number of the refusal, and the planes lent for writing
+// hold what they held; RULE and PLACE are then not read.
 //
 // Every text is read, whatever it holds. A field or a part that is not there is empty. A character's digit is its lowest four bits; a
 // number is taken modulo 2^64, a width modulo 2^32, and an empty number is 0. A character that is none of 0 1 x z is the bit 0. A field
