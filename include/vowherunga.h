@@ -46,8 +46,7 @@ enum {
     VOWHERUNGA_REFUSAL_STORE_FULL = 12,     // all 320 cells of the store are filled
     VOWHERUNGA_REFUSAL_NO_ROOM = 13,        // an arena behind the last cell, or a scratch plane, has too few words for the new cell
     VOWHERUNGA_REFUSAL_BAD_STORE = 14,      // the arenas differ in length, or the store does not agree with them
-    VOWHERUNGA_REFUSAL_BAD_LITERAL = 15,    // the text is no sized literal, or the vector to write is a fill or not 1 to 4,096 bits wide
-    VOWHERUNGA_REFUSAL_TOO_MANY_ITEMS = 16  // an in step has more than 64 items
+    VOWHERUNGA_REFUSAL_BAD_LITERAL = 15     // the text is no sized literal, or the vector to write is a fill or not 1 to 4,096 bits wide
 };
 
 // The code of an op, with its name in a step list; never reused and never shifted.
@@ -68,8 +67,7 @@ enum {
     VOWHERUNGA_OP_LOGIC_AND = 13,      // land
     VOWHERUNGA_OP_LOGIC_OR = 14,       // lor
     VOWHERUNGA_OP_SELECT = 15,         // sel
-    VOWHERUNGA_OP_INSERT = 16,         // ins
-    VOWHERUNGA_OP_INSIDE = 17          // in
+    VOWHERUNGA_OP_INSERT = 16          // ins
 };
 
 // The number of the rule that decided a comparison.
@@ -361,8 +359,8 @@ vowherunga_cell_result vowherunga_add_input(size_t count, size_t starts[VOWHERUN
                                             uint64_t *arena_value, size_t arena_value_len, uint64_t *arena_unknown,
                                             size_t arena_unknown_len);
 
-// Adds the result of a step, an op by its code on the cells a, b and c, as the next cell, by way of the scratch planes; c of ins is a position,
-// and the items of in are all cells from b to c. Refused by 14, 12, 11, 7, 16, then 13; 255 for a code that is no op's.
+// Adds the result of a step, an op by its code on the cells a, b and c, as the next cell, by way of the scratch planes. Refused by 14, 12, 11,
+// 7, then 13; 255 for a code that is no op's.
 vowherunga_cell_result vowherunga_add_step(size_t count, size_t starts[VOWHERUNGA_MAX_CELLS], uint32_t widths[VOWHERUNGA_MAX_CELLS],
                                            bool signs[VOWHERUNGA_MAX_CELLS], bool fills[VOWHERUNGA_MAX_CELLS], uint8_t op, uint32_t a,
                                            uint32_t b, uint32_t c, uint64_t *arena_value, size_t arena_value_len, uint64_t *arena_unknown,

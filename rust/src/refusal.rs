@@ -30,12 +30,10 @@ pub enum Refusal {
     BadStore = 14,
     /// 15: the text is no sized literal, or the vector to write as one is a fill or not 1 to 4,096 bits wide.
     BadLiteral = 15,
-    /// 16: an in step has more than 64 items.
-    TooManyItems = 16,
 }
 
 impl Refusal {
-    pub const ALL: [Refusal; 13] = [
+    pub const ALL: [Refusal; 12] = [
         Refusal::TooWide,
         Refusal::PlaneLength,
         Refusal::BitAboveWidth,
@@ -48,7 +46,6 @@ impl Refusal {
         Refusal::NoRoom,
         Refusal::BadStore,
         Refusal::BadLiteral,
-        Refusal::TooManyItems,
     ];
 
     pub fn number(self) -> u8 {
@@ -75,7 +72,6 @@ impl Refusal {
             Refusal::NoRoom => "an arena behind the last cell, or a scratch plane, has too few words for the new cell",
             Refusal::BadStore => "the arenas differ in length, or the store does not agree with them",
             Refusal::BadLiteral => "the text is no sized literal, or the vector to write as one is a fill or not 1 to 4,096 bits wide",
-            Refusal::TooManyItems => "an in step has more than 64 items",
         }
     }
 

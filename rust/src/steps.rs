@@ -25,8 +25,7 @@ use crate::{ParseError, Refusal};
 use std::fmt;
 use std::str::FromStr;
 
-/// The ops of a step list. Operands are cells: a, then b, then c; c of [`Op::Insert`] is a position, and [`Op::Inside`] has all cells from b
-/// to c as operands.
+/// The ops of a step list. Operands are cells: a, then b, then c; c of [`Op::Insert`] is a position.
 ///
 /// Each has a code by which the exports know it. A code is never reused and never shifted when ops come or go.
 #[derive(Clone, Copy, Debug, PartialEq, Eq, Hash)]
@@ -67,13 +66,10 @@ pub enum Op {
     Select = 15,
     /// ins: the lowest bits of b, at most 64, put into a at position c; what would lie above a is left out. The header is that of a.
     Insert = 16,
-    /// in: a against each of the cells b, b + 1, .., c, the items, by [`wildcard_eq`](crate::compare::wildcard_eq) with the item on the right: 1 if
-    /// some comparison is 1, else x if some is x, else 0. There are at most 64 items, and none if b exceeds c.
-    Inside = 17,
 }
 
 impl Op {
-    pub const ALL: [Op; 18] = [
+    pub const ALL: [Op; 17] = [
         Op::And,
         Op::Or,
         Op::Xor,
@@ -91,7 +87,6 @@ impl Op {
         Op::LogicOr,
         Op::Select,
         Op::Insert,
-        Op::Inside,
     ];
 
     /// The number that the op has for good.
@@ -124,7 +119,6 @@ impl Op {
             Op::LogicOr => "lor",
             Op::Select => "sel",
             Op::Insert => "ins",
-            Op::Inside => "in",
         }
     }
 }

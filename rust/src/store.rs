@@ -1,8 +1,8 @@
 //! The cell store: at most [`MAX_CELLS`] vectors, numbered from 0, whose words lie one behind the other in two arenas that the caller keeps.
 //!
 //! A call refuses, in this order, by 14 (arenas of different length, or a store that does not agree with them), 12 (no cell is left), then for
-//! an input by 1 to 4 as in [`check_vector`](crate::value::check_vector), for a step by 11 (an operand names no filled cell), 7 (arms that
-//! differ in width, or a fill) and 16 (more than 64 items), then by 13 (too few words). A refused call changes no cell and no word.
+//! an input by 1 to 4 as in [`check_vector`](crate::value::check_vector), for a step by 11 (an operand names no filled cell) and 7 (arms that
+//! differ in width, or a fill), then by 13 (too few words). A refused call changes no cell and no word.
 //!
 //! ```
 //! use vowherunga::{steps::{Op, Step}, store::{Store, Stored}, Header, Refusal};

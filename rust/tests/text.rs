@@ -33,17 +33,17 @@ fn bits() {
 #[test]
 fn ops() {
     let names = [
-        "and", "or", "xor", "not", "mrg", "rand", "ror", "rxor", "eq", "ceq", "cz", "cx", "weq", "land", "lor", "sel", "ins", "in",
+        "and", "or", "xor", "not", "mrg", "rand", "ror", "rxor", "eq", "ceq", "cz", "cx", "weq", "land", "lor", "sel", "ins",
     ];
     for code in 0..=u8::MAX {
         let op = Op::from_code(code);
-        assert_eq!(op.map(Op::code), (code < 18).then_some(code));
+        assert_eq!(op.map(Op::code), (code < 17).then_some(code));
         assert_eq!(op.map(Op::name), names.get(usize::from(code)).copied());
     }
     for (op, name) in Op::ALL.into_iter().zip(names) {
         assert_eq!((op.to_string(), name.parse()), (name.to_string(), Ok(op)));
     }
-    for name in ["", "And", "and ", "an", "nd", "merge", "i", "inside"] {
+    for name in ["", "And", "and ", "an", "nd", "merge"] {
         assert_eq!(name.parse::<Op>(), Err(ParseError::NotAnOp), "{name:?}");
     }
 }
@@ -69,7 +69,6 @@ fn refusals() {
         "too few words",
         "arenas differ",
         "sized literal",
-        "64 items",
     ];
     for (refusal, words) in Refusal::ALL.into_iter().zip(told) {
         let of = Refusal::ALL.into_iter().filter(|r| r.to_string().contains(words));

@@ -150,32 +150,8 @@ static void store(void)
     EXPECT(av[1] == 2 && au[1] == 1 && av[2] == 2 && au[2] == 1 && sv[0] == 2 && su[0] == 1 && sv[1] == 7 && su[1] == 9);
     r = vowherunga_add_step(3, starts, widths, signs, fills, VOWHERUNGA_OP_NOT, 0, 0, 0, av, 3, au, 3, sv, 2, su, 2);
     EXPECT(r.refusal == VOWHERUNGA_REFUSAL_NO_ROOM && r.cell == 0);
-    r = vowherunga_add_step(2, starts, widths, signs, fills, VOWHERUNGA_OP_INSIDE + 1, 0, 0, 0, av, 3, au, 3, sv, 2, su, 2);
+    r = vowherunga_add_step(2, starts, widths, signs, fills, VOWHERUNGA_OP_INSERT + 1, 0, 0, 0, av, 3, au, 3, sv, 2, su, 2);
     EXPECT(r.refusal == VOWHERUNGA_NO_SUCH_OP && av[2] == 2 && au[2] == 1 && starts[2] == 2);
-}
-
-// A bit 1 against itself and 63 cells of 0, against 64 cells of 0, against one cell more than that, and against none.
-static void sets(void)
-{
-    const uint64_t zero[1] = {0}, one[1] = {1};
-    uint64_t av[66] = {0}, au[66] = {0}, sv[1] = {0}, su[1] = {0};
-    const vowherunga_header bit = {1, false, false};
-    const struct {
-        uint32_t b, c;
-        uint8_t refusal, value;
-    } calls[] = {{0, 63, 0, 1}, {1, 64, 0, 0}, {0, 64, VOWHERUNGA_REFUSAL_TOO_MANY_ITEMS, 7}, {1, 0, 0, 0}};
-    vowherunga_cell_result r;
-    for (size_t cell = 0; cell < 65; cell++) {
-        r = vowherunga_add_input(cell, starts, widths, signs, fills, bit, cell == 0 ? one : zero, 1, zero, 1, av, 66, au, 66);
-        EXPECT(r.refusal == 0 && r.cell == cell);
-    }
-    for (size_t k = 0; k < sizeof calls / sizeof *calls; k++) {
-        av[65] = 7;
-        r = vowherunga_add_step(65, starts, widths, signs, fills, VOWHERUNGA_OP_INSIDE, 0, calls[k].b, calls[k].c, av, 66, au, 66, sv, 1, su,
-                                1);
-        EXPECT(r.refusal == calls[k].refusal && av[65] == calls[k].value && au[65] == 0);
-        EXPECT(r.refusal != 0 || (r.cell == 65 && widths[65] == 1 && !signs[65] && !fills[65]));
-    }
 }
 
 static uint8_t out[VOWHERUNGA_OUTPUT_BYTES];
@@ -237,7 +213,6 @@ int main(void)
     decisions();
     arms();
     store();
-    sets();
     runs();
     literals();
     return failed;

@@ -81,16 +81,14 @@ gives '64 inputs and 256 steps' list want
 # not upon not of zeros of a width, then the or of the input's bits, until the 2,048 words of the arenas are full. No input can ask for a
 # word too many: the bits in 65,536 bytes take 1,024 words, and 64 inputs at most 64 more. Nor can a list tell scratch planes of 2,048 words
 # from others of at least 64 words, which is what the widest result takes.
-fills() { # NAME WIDTH NOTS ORS RUN, the number of steps that find room [LAST REFUSAL, of a step behind them: the input in cells 0 to LAST]
-    awk -v zeros="$(digits 0 "$2")" -v ones="$(digits 1 "$2")" -v nots="$3" -v ors="$4" -v run="$5" -v last="${6-}" -v refusal="${7-13}" 'BEGIN {
-        steps = nots + ors + (last != "")
+fills() { # NAME WIDTH NOTS ORS RUN, the number of steps that find room
+    awk -v zeros="$(digits 0 "$2")" -v ones="$(digits 1 "$2")" -v nots="$3" -v steps=$(($3 + $4)) -v run="$5" 'BEGIN {
         printf "inputs=1\nsteps=%d\nwidth=%d\nkind=u\nbits=%s\n", steps, length(zeros), zeros >"list"
-        for (k = 1; k <= nots + ors; k++) {
+        for (k = 1; k <= steps; k++) {
             printf "op=%s\na=%d\nb=0\nc=0\n", (k <= nots ? "not" : "ror"), (k <= nots ? k - 1 : 0) >"list"
             if (k <= run) printf "cell=%d\nbits=%s\n", k, (k <= nots ? k % 2 ? ones : zeros : 0) >"want"
         }
-        if (last != "") printf "op=in\na=0\nb=0\nc=%d\n", last >"list"
-        if (run < steps) printf "refused=%d\nstep=%d\n", refusal, run + 1 >"want"
+        if (run < steps) printf "refused=13\nstep=%d\n", run + 1 >"want"
         else printf "done=%d\n", steps >"want"
     }' || failed=$((failed + 1))
     gives "$1" list want
@@ -103,9 +101,6 @@ fills '33 cells of 64 words' 4096 40 0 31
 fills '32 cells of 64 words and one of 1 word' 4096 31 1 31
 fills '31 cells of 64 words and 64 of 1 word' 4096 30 64 94
 fills '31 cells of 64 words and 65 of 1 word' 4096 30 65 94
-fills '64 items and no word left' 4096 30 64 94 63 13
-fills '65 items and no word left' 4096 30 64 94 64 16
-fills 'a last item that is not filled and no word left' 4096 30 64 94 95 11
 
 # 65,536 bytes, and one more: fifteen inputs of 4,096 bits and one that fills up
 sized() { # BYTES

@@ -1,24 +1,20 @@
 // The ops worked out, and a planned step. These ask their caller for accepted operands and for room.
-ghost use Rattle.std.specs.Prelude.{◌≡◌, true, false, [], ◌∷◌, map, ℕ, ◌≤◌, ◌<◌, length};
+ghost use Rattle.std.specs.Prelude.{◌≡◌, true, false, ◌≤◌, length};
 ghost use Rattle.words.specs.Planes.{word_count, bit_of, lent_by, planes_of, Plane};
 ghost use Rattle.value.specs.Checks.{vector};
 ghost use Rattle.reduce_words.specs.Fold.{truth_bit};
-ghost use Rattle.compare_words.specs.declared.Comparison.TheVariants.{WildcardEqual};
-ghost use Rattle.compare_words.specs.Compared.{compared};
-ghost use Rattle.ops.specs.Ops.{up_to, family_refused, family_header, answer_bit, inside, family_bits};
-ghost use Rattle.cells.specs.Cells.{cell_vector, cell_agrees, put_planes};
+ghost use Rattle.ops.specs.Ops.{arms_refused, op_header, answer_bit, op_bits};
+ghost use Rattle.cells.specs.Cells.{cell_agrees, put_planes};
 ghost use Rattle.cells.specs.Places.{fields_by};
-ghost use Rattle.execute.specs.Executed.{family_cells, lent_memory_by, vector_in, planned_bits, AgreesAt, Executable, executed};
+ghost use Rattle.execute.specs.Executed.{op_cells, lent_memory_by, Executable, executed};
 
 use crate::Operands;
 use bit::LogicBit;
 use bitwise_words::unchecked::{join_planes, not_planes};
-use cells::Cell;
 use cells::unchecked::{cell_at, cell_words, copy_behind};
-use compare_words::Comparison;
 use compare_words::unchecked::compare;
 use lanes::{Bitwise, and_lanes, or_lanes};
-use ops::{Family, Question, Work, work_of};
+use ops::{Family, Op, Question};
 use plan::PlannedStep;
 use reduce_words::Truth;
 use reduce_words::unchecked::{and_bits, truth, xor_bits};
@@ -80,20 +76,10 @@ fn answer(q: Question, a: Header, av: &[u64], au: &[u64], b: Header, bv: &[u64],
     }
 }
 
-// Puts the bit at the lowest place of a word into the first words of two planes.
-fn put_bit(x: Word, ov: &mut [u64], ou: &mut [u64])
-    requires { (1 ≤ length ov.old) × (1 ≤ length ou.old) }
-    ensures { lent_by ov.exit ou.exit
-        ≡ put_planes 0 (planes_of (bit_of x 0 ∷ [])) (lent_by ov.entry ou.entry) }
-{
-    ov[0] = x.value % 2;
-    ou[0] = x.unknown % 2;
-}
-
-// An op of a family on accepted operands; one that it does not name may be any. A select is the arm that its truth names, and merges both only where
+// The op on accepted operands; one that it does not name may be any. A select is the arm that its truth names, and merges both only where
 // the truth is unknown; an insert puts the lowest bits of b into a, from `pos` on.
 fn work(
-    k: Family,
+    op: Op,
     a: Header,
     av: &[u64],
     au: &[u64],
@@ -110,15 +96,15 @@ fn work(
     requires plane { Plane a.width av.now × Plane a.width au.now }
     requires plane_2 { Plane b.width bv.now × Plane b.width bu.now }
     requires plane_3 { Plane c.width cv.now × Plane c.width cu.now }
-    requires c_value { family_refused k b c ≡ false }
-    requires ov_len { (length ov.old ≡ word_count (family_header k a b c).width)
-        × (length ou.old ≡ word_count (family_header k a b c).width) }
+    requires c_value { arms_refused op b c ≡ false }
+    requires ov_len { (length ov.old ≡ word_count (op_header op a b c).width)
+        × (length ou.old ≡ word_count (op_header op a b c).width) }
     ensures { lent_by ov.exit ou.exit
         ≡ planes_of
-        (family_bits k (vector a (lent_by av.entry au.entry)) (vector b (lent_by bv.entry bu.entry))
+        (op_bits op (vector a (lent_by av.entry au.entry)) (vector b (lent_by bv.entry bu.entry))
         (vector c (lent_by cv.entry cu.entry)) pos) }
 {
-    match k {
+    match ops::family_of(op) {
         Family::Join(j) => {
             let width = extension::larger(a.width, b.width);
             join_planes(j, a, av, au, b, bv, bu, width, ov, ou)
@@ -126,7 +112,8 @@ fn work(
         Family::Not => not_planes(a.width, av, au, ov, ou),
         Family::Answer(q) => {
             let x = answer(q, a, av, au, b, bv, bu);
-            put_bit(x, ov, ou)
+            ov[0] = x.value % 2;
+            ou[0] = x.unknown % 2;
         }
         Family::Select => match truth(a.width, av, au) {
             Truth::True => {
@@ -149,9 +136,9 @@ fn work(
     }
 }
 
-// An op of a family on three cells, its result of the header h put in the first words of two planes.
+// The op on three cells, its result of the header h put in the first words of two planes.
 fn work_cells(
-    k: Family,
+    op: Op,
     o: Operands,
     h: Header,
     pos: usize,
@@ -164,11 +151,11 @@ fn work_cells(
     requires a_value { cell_agrees (lent_by av au) o.a.start o.a ≡ true }
     requires b_value { cell_agrees (lent_by av au) o.b.start o.b ≡ true }
     requires c_value { cell_agrees (lent_by av au) o.c.start o.c ≡ true }
-    requires header_value { family_refused k o.b.header o.c.header ≡ false }
-    requires h_value { h ≡ family_header k o.a.header o.b.header o.c.header }
+    requires header_value { arms_refused op o.b.header o.c.header ≡ false }
+    requires h_value { h ≡ op_header op o.a.header o.b.header o.c.header }
     requires width_in_bounds { (word_count h.width ≤ length ov.old) × (word_count h.width ≤ length ou.old) }
     ensures { lent_by ov.exit ou.exit
-        ≡ put_planes 0 (planes_of (family_cells k o pos (lent_by av.entry au.entry)))
+        ≡ put_planes 0 (planes_of (op_cells op o pos (lent_by av.entry au.entry)).bits)
         (lent_by ov.entry ou.entry) }
 {
     let n = word_count(h.width);
@@ -179,7 +166,7 @@ fn work_cells(
     let zv = cell_words(o.c, av);
     let zu = cell_words(o.c, au);
     work(
-        k,
+        op,
         o.a.header,
         xv,
         xu,
@@ -195,105 +182,7 @@ fn work_cells(
     );
 }
 
-// The wildcard equality of a value, on the left, with an item.
-fn equals_item(v: Cell, item: Cell, av: &[u64], au: &[u64]) -> LogicBit
-    requires av_len { length av.now ≡ length au.now }
-    requires v_value { cell_agrees (lent_by av au) v.start v ≡ true }
-    requires item_value { cell_agrees (lent_by av au) item.start item ≡ true }
-    ensures { result
-        ≡ compared WildcardEqual (cell_vector (lent_by av.entry au.entry) v)
-        (cell_vector (lent_by av.entry au.entry) item) }
-{
-    let xv = cell_words(v, av);
-    let xu = cell_words(v, au);
-    let yv = cell_words(item, av);
-    let yu = cell_words(item, au);
-    compare(
-        Comparison::WildcardEqual,
-        v.header,
-        xv,
-        xu,
-        item.header,
-        yv,
-        yu,
-    )
-}
-
-// Whether a value is inside the set of the cells from `first` up to `last`. The scan is left at the first item that equals it.
-fn inside<'a>(
-    v: Cell,
-    first: usize,
-    last: usize,
-    starts: &'a [usize; 320],
-    widths: &'a [u32; 320],
-    signs: &'a [bool; 320],
-    fills: &'a [bool; 320],
-    av: &[u64],
-    au: &[u64],
-) -> LogicBit
-    requires av_len { length av.now ≡ length au.now }
-    requires v_value { cell_agrees (lent_by av au) v.start v ≡ true }
-    requires last_bound { (last < 320)
-        × ((i : ℕ) → i ≤ last → AgreesAt (fields_by starts widths signs fills) (lent_by av au) i) }
-    ensures { result
-        ≡ inside (cell_vector (lent_by av.entry au.entry) v)
-        (map (vector_in (fields_by starts.entry widths.entry signs.entry fills.entry) (lent_by av.entry au.entry))
-        (up_to first last)) }
-{
-    let mut doubt = false;
-    let mut i = first;
-    while i <= last {
-        let item = cell_at(i, starts, widths, signs, fills);
-        match equals_item(v, item, av, au) {
-            LogicBit::One => return LogicBit::One,
-            LogicBit::Zero => i += 1,
-            LogicBit::X | LogicBit::Z => {
-                doubt = true;
-                i += 1;
-            }
-        }
-    }
-    if doubt { LogicBit::X } else { LogicBit::Zero }
-}
-
-// Works a planned step out on the cells at the places that it names, its result put in the first words of two planes.
-fn work_step<'a>(
-    p: PlannedStep,
-    starts: &'a [usize; 320],
-    widths: &'a [u32; 320],
-    signs: &'a [bool; 320],
-    fills: &'a [bool; 320],
-    av: &[u64],
-    au: &[u64],
-    ov: &mut [u64],
-    ou: &mut [u64],
-)
-    requires { Executable p (fields_by starts widths signs fills) (lent_memory_by av au ov ou) }
-    ensures { lent_by ov.exit ou.exit
-        ≡ put_planes 0
-        (planes_of
-        (planned_bits p (fields_by starts.entry widths.entry signs.entry fills.entry) (lent_by av.entry au.entry)))
-        (lent_by ov.entry ou.entry) }
-{
-    let op = p.op;
-    let a = cell_at(p.a, starts, widths, signs, fills);
-    match work_of(op) {
-        Work::Cells(k) => {
-            let o = Operands {
-                a: a,
-                b: cell_at(p.b, starts, widths, signs, fills),
-                c: cell_at(p.c, starts, widths, signs, fills),
-            };
-            work_cells(k, o, p.header, p.pos, av, au, ov, ou)
-        }
-        Work::Inside => {
-            let found = inside(a, p.b, p.c, starts, widths, signs, fills, av, au);
-            put_bit(filled(found), ov, ou)
-        }
-    }
-}
-
-// Works a planned step out in the scratch planes, and copies the result behind the last cell.
+// Works a planned step out on the cells at the places that it names, and copies the result from the scratch planes behind the last cell.
 pub fn execute<'a>(
     p: PlannedStep,
     starts: &'a [usize; 320],
@@ -310,7 +199,13 @@ pub fn execute<'a>(
         ≡ executed p (fields_by starts.entry widths.entry signs.entry fills.entry)
         (lent_memory_by av.entry au.entry sv.entry su.entry) }
 {
-    work_step(p, starts, widths, signs, fills, av, au, sv, su);
+    let o = Operands {
+        a: cell_at(p.a, starts, widths, signs, fills),
+        b: cell_at(p.b, starts, widths, signs, fills),
+        c: cell_at(p.c, starts, widths, signs, fills),
+    };
+    let op = p.op;
     let h = p.header;
+    work_cells(op, o, h, p.pos, av, au, sv, su);
     copy_behind(p.start, word_count(h.width), sv, su, av, au)
 }

@@ -23,12 +23,11 @@ use Rattle.value.specs.Checks.{plain, Vector}
 use Rattle.compare_words.specs.declared.Comparison.TheVariants as comparison
 use Rattle.compare_words.specs.Compared.{compared}
 use Rattle.ops.specs.declared.Op.{Op}
-use Rattle.ops.specs.declared.Op.TheVariants.{And, Or, Xor, Not, Merge, ReduceAnd, ReduceOr, ReduceXor, Equal, CaseEqual, CasezEqual, CasexEqual, WildcardEqual, LogicAnd, LogicOr, Select, Insert, Inside}
+use Rattle.ops.specs.declared.Op.TheVariants.{And, Or, Xor, Not, Merge, ReduceAnd, ReduceOr, ReduceXor, Equal, CaseEqual, CasezEqual, CasexEqual, WildcardEqual, LogicAnd, LogicOr, Select, Insert}
 use Rattle.ops.specs.declared.Step.{Step}
-use Rattle.ops.specs.Ops.{operand}
 use Rattle.machine.specs.declared.Room.{Room}
-use Rattle.machine.specs.Machine.{Cell, headers_of, vector_at, words_taken, check_step, operands_of, step_cell, run_from, input_cells, machine_run}
-use Rattle.knownness.specs.Knownness.{keeps_known, is_exact, AllKeep, Known, Refines, Completes, Pointwise, Each, Cellwise, AllSound, gives, AllGive, ExactStep, Loses, Inexact, LeftOut}
+use Rattle.machine.specs.Machine.{Cell, headers_of, vector_at, words_taken, check_step, step_cell, run_from, input_cells, machine_run}
+use Rattle.knownness.specs.Knownness.{keeps_known, is_exact, AllKeep, Known, Refines, Completes, Pointwise, Cellwise, AllSound, gives, AllGive, ExactStep, Loses, Inexact, LeftOut}
 use Rattle.knownness.proofs.Runs.{step-exact, alike}
 
 -- ---- zx beside zx, and 00 beside 11, which refine and complete it
@@ -36,21 +35,14 @@ use Rattle.knownness.proofs.Runs.{step-exact, alike}
 pair : LogicBit → LogicBit → Vector
 pair a b = record { header = plain 2; bits = a ∷ b ∷ [] }
 
-abbrev unknown_pairs : List Vector
-unknown_pairs = pair X Z ∷ pair X Z ∷ []
-
-abbrev apart_pairs : List Vector
-apart_pairs = pair Zero Zero ∷ pair One One ∷ []
-
 unknown : List Cell
-unknown = input_cells unknown_pairs
+unknown = input_cells (pair X Z ∷ pair X Z ∷ [])
 
 apart : List Cell
-apart = input_cells apart_pairs
+apart = input_cells (pair Zero Zero ∷ pair One One ∷ [])
 
--- the op on the first cell and the second, which is the one item of inside
 abbrev of : Op → Step
-of op = record { op = op; a = 0; b = 1; c = 1 }
+of op = record { op = op; a = 0; b = 1; c = 0 }
 
 room : Room
 room = record { arena = 3; scratch = 1 }
@@ -83,17 +75,6 @@ refines = (refl, go)
     go (suc zero) = made-known Refines (inl refl) One (inr (tt, tt)) (inr (tt, tt))
     go (suc (suc j)) = (refl, refl, λ i. inl refl)
 
-completes : Each Completes unknown_pairs apart_pairs
-completes = (refl, go)
-  where
-    known_so : (b : LogicBit) → Known b → Pointwise Completes (pair X Z) (pair b b)
-    known_so b k = made-known Completes (tt, λ q. refl) b (k, λ q. absurd q) (k, λ q. absurd q)
-
-    go : (j : ℕ) → Pointwise Completes (operand unknown_pairs j) (operand apart_pairs j)
-    go zero = known_so Zero tt
-    go (suc zero) = known_so One tt
-    go (suc (suc j)) = (refl, refl, λ i. (tt, λ q. refl))
-
 one_not_zero : ◌≢◌ {A = LogicBit} Zero One
 one_not_zero e = subst (λ (b : LogicBit). T (same b Zero)) e tt
 
@@ -115,10 +96,11 @@ lost op e f = record {
   changes = λ q. one_not_zero (sym f ∙ q ∙ e);
 }
 
-not-exact : (op : Op) → check_step room (headers_of unknown) (of op) ≡ given tt → op ≢ Equal → operands_of unknown (of op) ≡ unknown_pairs
+not-exact : (op : Op) → check_step room (headers_of unknown) (of op) ≡ given tt → op ≢ Equal
     → 0 < length (step_cell unknown (of op)).vector.bits → at (step_cell unknown (of op)).vector.bits 0 ≡ One
-    → gives op 1 false apart_pairs 0 ≡ Zero → Inexact op
-not-exact op a n p l e f = record {
+    → gives op 0 false (pair Zero Zero) (pair One One) (pair Zero Zero) 0 ≡ Zero → Inexact op
+unfolding unknown
+not-exact op a n l e f = record {
   room = room;
   cells = unknown;
   step = of op;
@@ -126,8 +108,12 @@ not-exact op a n p l e f = record {
   sound = sound;
   accepted = a;
   comparable = λ q. absurd (n q);
-  inexact = λ x. one_not_zero (sym f ∙ (x 0 l One tt).0 e apart_pairs (subst (λ vs. Each Completes vs apart_pairs) (sym p) completes) false);
+  inexact = λ x. one_not_zero (sym f
+      ∙ (x 0 l One tt).0 e (pair Zero Zero) (pair One One) (pair Zero Zero) (completed Zero tt) (completed One tt) (completed Zero tt) false);
 }
+  where
+    completed : (b : LogicBit) → Known b → Pointwise Completes (pair X Z) (pair b b)
+    completed b k = made-known Completes (tt, λ q. refl) b (k, λ q. absurd q) (k, λ q. absurd q)
 
 -- ---- the tables
 
@@ -150,7 +136,6 @@ loses LogicAnd h = absurd h
 loses LogicOr h = absurd h
 loses Select h = absurd h
 loses Insert h = absurd h
-loses Inside h = lost Inside refl refl
 
 not_equal : (op : Op) → T (not (is_exact op)) → op ≢ Equal
 not_equal op h e = subst (λ (o : Op). T (not (is_exact o))) e h
@@ -166,15 +151,14 @@ inexact ReduceAnd h = absurd h
 inexact ReduceOr h = absurd h
 inexact ReduceXor h = absurd h
 inexact Equal h = absurd h
-inexact CaseEqual h = not-exact CaseEqual refl (not_equal CaseEqual tt) refl (omega arith) refl refl
-inexact CasezEqual h = not-exact CasezEqual refl (not_equal CasezEqual tt) refl (omega arith) refl refl
-inexact CasexEqual h = not-exact CasexEqual refl (not_equal CasexEqual tt) refl (omega arith) refl refl
-inexact WildcardEqual h = not-exact WildcardEqual refl (not_equal WildcardEqual tt) refl (omega arith) refl refl
+inexact CaseEqual h = not-exact CaseEqual refl (not_equal CaseEqual tt) (omega arith) refl refl
+inexact CasezEqual h = not-exact CasezEqual refl (not_equal CasezEqual tt) (omega arith) refl refl
+inexact CasexEqual h = not-exact CasexEqual refl (not_equal CasexEqual tt) (omega arith) refl refl
+inexact WildcardEqual h = not-exact WildcardEqual refl (not_equal WildcardEqual tt) (omega arith) refl refl
 inexact LogicAnd h = absurd h
 inexact LogicOr h = absurd h
 inexact Select h = absurd h
 inexact Insert h = absurd h
-inexact Inside h = not-exact Inside refl (not_equal Inside tt) refl (omega arith) refl refl
 
 -- ---- the other way
 
@@ -237,9 +221,9 @@ module _ (f : LogicBit → Vector) (b : Vector) (completed : (a : Vector) → Po
       known-zero Z k = absurd k
 
       all-zero : AllGive (input_cells (f X ∷ b ∷ [])) (of Equal) 0 Zero
-      all-zero vs h second =
-          let w = completed (operand vs 0) (h.1 0) in
-          ap₂ (compared comparison.Equal) w.2 (only (operand vs 1) (h.1 1)) ∙ known-zero w.0 w.1
+      all-zero a d c ha hd hc second =
+          let w = completed a ha in
+          ap₂ (compared comparison.Equal) w.2 (only d hd) ∙ known-zero w.0 w.1
 
 -- a vector without an unknown bit is its only completion
 all_known : List LogicBit → Bool

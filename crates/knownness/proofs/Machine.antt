@@ -1,6 +1,6 @@
 -- The runs of the plain machine, whatever its ops are.
 --     header-at, headers-step     the headers of the cells, and of the cells with a step's
---     operands-accepted     the operands of a step that is not refused are in order
+--     arms-accepted     a step that is not refused has arms that are in order
 --     same-ending       a run's ending goes by the headers of the cells it starts from
 --     prefix            the cells that a run starts from stay, in order
 --     at_more           what holds of all cells holds with one more
@@ -18,16 +18,13 @@ use Rattle.refusal.specs.Outcome.{Answer, after}
 use Rattle.refusal.specs.Outcome.Answer.{given, refused}
 use Rattle.value.specs.declared.Header.{Header}
 use Rattle.ops.specs.declared.Step.{Step}
+use Rattle.ops.specs.declared.Family.{Family}
 use Rattle.ops.specs.declared.Family.TheVariants as family
-use Rattle.ops.specs.declared.Work.{Work}
-use Rattle.ops.specs.declared.Work.TheVariants as work
-use Rattle.ops.specs.Ops.{work_of, cells_read, arms_refused, work_header, op_header, operand}
+use Rattle.ops.specs.Ops.{family_of, arms_refused, family_header, op_header}
 use Rattle.ops.proofs.Results.{result-width}
-use Rattle.ops.proofs.Operands.{arms-read, header_read, operand-all}
 use Rattle.machine.specs.declared.Room.{Room}
-use Rattle.machine.specs.Machine.{Cell, headers_of, empty_cell, cell_at, vector_at, header_at, words_taken, check_count, check_names, check_items, check_room, check_scratch, step_header, check_step, operands_of, step_cell, Run, onward, run_from}
+use Rattle.machine.specs.Machine.{Cell, headers_of, empty_cell, cell_at, vector_at, header_at, words_taken, check_count, check_names, check_room, check_scratch, step_header, check_step, step_cell, Run, onward, run_from}
 use Rattle.knownness.specs.Knownness.{AllSound, NoFill}
-use Rattle.knownness.proofs.Ops.{Accepted}
 
 -- ---- headers
 
@@ -43,14 +40,9 @@ headers-more [] c = refl
 headers-more (x ∷ xs) c = ap {B = List Header} (λ l. x.vector.header ∷ l) (headers-more xs c)
 
 pub headers-step : (cs : List Cell) (s : Step) → headers_of (more cs s) ≡ headers_of cs ++ (step_header (headers_of cs) s ∷ [])
-headers-step cs s = headers-more cs (step_cell cs s)
-
--- the header of a step's cell, by its operands
-step-header : (cs : List Cell) (s : Step) → step_header (headers_of cs) s
-    ≡ op_header s.op (operand (operands_of cs s) 0).header (operand (operands_of cs s) 1).header (operand (operands_of cs s) 2).header
-step-header cs s =
-    (λ k. op_header s.op (header-at cs s.a k) (header-at cs s.b k) (header-at cs s.c k))
-    ∙ header_read (vector_at cs) s.a s.b s.c (work_of s.op)
+headers-step cs s =
+    headers-more cs (step_cell cs s)
+    ∙ (λ k. headers_of cs ++ (op_header s.op (sym (header-at cs s.a) k) (sym (header-at cs s.b) k) (sym (header-at cs s.c) k) ∷ []))
 
 -- ---- refusals
 
@@ -65,23 +57,15 @@ arms_of (given t) (refused n) z w e = absurd e
 arms_of (given t) (given u) true w e = absurd e
 arms_of (given t) (given u) false w e = refl
 
-arms-accepted : (r : Room) (cs : List Cell) (s : Step) (u : Unit) → check_step r (headers_of cs) s ≡ given u
-    → arms_refused s.op (operand (operands_of cs s) 1).header (operand (operands_of cs s) 2).header ≡ false
+pub arms-accepted : (r : Room) (cs : List Cell) (s : Step) (u : Unit) → check_step r (headers_of cs) s ≡ given u
+    → arms_refused s.op (vector_at cs s.b).header (vector_at cs s.c).header ≡ false
 unfolding check_step passed
 arms-accepted r cs s u e =
     let hs : List Header = headers_of cs in
     let w : ℕ = (step_header hs s).width in
-    sym (arms-read (vector_at cs) s.a s.b s.c (work_of s.op))
-    ∙ (λ k. arms_refused s.op (sym (header-at cs s.b) k) (sym (header-at cs s.c) k))
+    (λ k. arms_refused s.op (sym (header-at cs s.b) k) (sym (header-at cs s.c) k))
     ∙ arms_of (check_count (length hs)) (check_names (length hs) s) (arms_refused s.op (header_at hs s.b) (header_at hs s.c))
-    (after (check_items s) (after (check_room r (words_taken hs) w) (check_scratch r w))) (subst (λ (x : Answer Unit). T (passed x)) (sym e) tt)
-
-pub operands-accepted : (r : Room) (cs : List Cell) (s : Step) (u : Unit) → check_step r (headers_of cs) s ≡ given u → AllSound cs
-    → Accepted (work_of s.op) (operands_of cs s)
-operands-accepted r cs s u e h = record {
-  sound = operand-all (λ v. length v.bits ≡ v.header.width) refl (vector_at cs) h (cells_read s);
-  arms = arms-accepted r cs s u e;
-}
+    (after (check_room r (words_taken hs) w) (check_scratch r w)) (subst (λ (x : Answer Unit). T (passed x)) (sym e) tt)
 
 module _ (r : Room) where
   -- ---- endings
@@ -145,23 +129,20 @@ module _ (P : Cell → Type 0) (none : P empty_cell) where
 
 pub step-sound : (r : Room) (cs : List Cell) (s : Step) (u : Unit) → check_step r (headers_of cs) s ≡ given u → AllSound cs → AllSound (more cs s)
 step-sound r cs s u e h =
-    let o = operands-accepted r cs s u e h in
     all_more (λ c. length c.vector.bits ≡ c.vector.header.width) refl cs (step_cell cs s) h
-    (result-width (operands_of cs s) s.c o.sound s.op o.arms ∙ ap (λ x. x.width) (sym (step-header cs s)))
+    (result-width (vector_at cs s.a) (vector_at cs s.b) (vector_at cs s.c) s.c (h s.a) (h s.b) (h s.c) s.op (arms-accepted r cs s u e))
 
 -- ---- no cell is a fill
 
 -- only insert keeps a fill
-no-fill-header : (w : Work) (a b c : Header) → T (not a.is_fill) → T (not (work_header w a b c).is_fill)
-no-fill-header (work.Cells (family.Join j)) a b c h = tt
-no-fill-header (work.Cells family.Not) a b c h = tt
-no-fill-header (work.Cells (family.Answer q)) a b c h = tt
-no-fill-header (work.Cells family.Select) a b c h = tt
-no-fill-header (work.Cells family.Insert) a b c h = h
-no-fill-header work.Inside a b c h = tt
+no-fill-header : (f : Family) (a b c : Header) → T (not a.is_fill) → T (not (family_header f a b c).is_fill)
+no-fill-header (family.Join j) a b c h = tt
+no-fill-header family.Not a b c h = tt
+no-fill-header (family.Answer q) a b c h = tt
+no-fill-header family.Select a b c h = tt
+no-fill-header family.Insert a b c h = h
 
 pub run-no-fill : (r : Room) (ss : List Step) (n : ℕ) (cs : List Cell) → NoFill cs → NoFill (run_from r cs n ss).cells
 run-no-fill r =
     run-all (λ c. T (not c.vector.header.is_fill)) tt r
-    (λ cs s u e h. let hs = headers_of cs in no-fill-header (work_of s.op) (header_at hs s.a) (header_at hs s.b) (header_at hs s.c)
-    (subst (λ (x : Header). T (not x.is_fill)) (sym (header-at cs s.a)) (h s.a)))
+    (λ cs s u e h. no-fill-header (family_of s.op) (vector_at cs s.a).header (vector_at cs s.b).header (vector_at cs s.c).header (h s.a))

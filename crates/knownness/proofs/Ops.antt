@@ -1,12 +1,11 @@
 -- The ops: each as a form at each place, and what holds of the form.
---     form_at, op_form      place i of the result; of a merge, with the bit that chooses its arm
---     Accepted            operands that are in order
---     cells-only          an op that keeps known bits is of a family
---     made-op, given-op   the result has the op's form at place i, and a completion gives it
---     Law, law            the form of an op keeps known bits if the op does, and is exact if the op is
+--     form_at        place i of the result; of a merge, with the bit that chooses its arm
+--     Accepted      operands that are in order
+--     made-form, given-form     the result has that at place i, and a completion gives it
+--     Law, law      the form of an op keeps known bits if the op does, and is exact if the op is
 use mathlib.Core.Path.{◌≡◌, refl, sym, ◌∙◌, ap, ap₂, subst}
 use mathlib.Core.Bool.{Bool, true, false, not, ◌&&◌, ◌||◌, cond}
-use mathlib.Core.List.{List, [], ◌∷◌}
+use mathlib.Core.List.{[], ◌∷◌}
 use Prim.Native.Nat.{ℕ, zero, suc, ◌+◌, ◌-◌, ◌<◌}
 use native.Mathlib.Omega.{arith}
 use native.Mathlib.Nat.{not-suc-le-zero, le_of_suc-le-suc}
@@ -33,15 +32,12 @@ use Rattle.reduce_words.specs.Fold.{reduce_and, reduce_or, reduce_xor, truth_of,
 use Rattle.compare_words.specs.declared.Comparison.TheVariants as comparison
 use Rattle.compare_words.specs.Compared.{compared}
 use Rattle.ops.specs.declared.Op.{Op}
-use Rattle.ops.specs.declared.Op.TheVariants.{And, Or, Xor, Not, Merge, ReduceAnd, ReduceOr, ReduceXor, Equal, CaseEqual, CasezEqual, CasexEqual, WildcardEqual, LogicAnd, LogicOr, Select, Insert, Inside}
+use Rattle.ops.specs.declared.Op.TheVariants.{And, Or, Xor, Not, Merge, ReduceAnd, ReduceOr, ReduceXor, Equal, CaseEqual, CasezEqual, CasexEqual, WildcardEqual, LogicAnd, LogicOr, Select, Insert}
 use Rattle.ops.specs.declared.Family.{Family}
 use Rattle.ops.specs.declared.Family.TheVariants as family
-use Rattle.ops.specs.declared.Question.TheVariants as question
-use Rattle.ops.specs.declared.Work.{Work}
-use Rattle.ops.specs.declared.Work.TheVariants as work
-use Rattle.ops.specs.Ops.{work_of, work_arms, arms_differ, answer_bit, vector_truth, selected, operand, work_bits, op_bits}
+use Rattle.ops.specs.Ops.{family_of, family_refused, answer_bit, vector_truth, selected, family_bits}
 use Rattle.ops.proofs.Results.{arms-alike}
-use Rattle.knownness.specs.Knownness.{keeps_known, is_exact, merges, arm_at, gives}
+use Rattle.knownness.specs.Knownness.{keeps_known, is_exact, merges, arm_at}
 use Rattle.knownness.proofs.Bits.{Rule, ExactRule, select_bit, exact_and, exact-or, exact-xor, exact-not, exact-left, exact-right, exact-select}
 use Rattle.knownness.proofs.Readings.{Reading, of-bit, of-operand, of_and, of_or, of_xor, of-truth}
 use Rattle.knownness.proofs.Forms.{Form, Mono, ExactForm, Frame, of_two, of_three}
@@ -61,7 +57,7 @@ abbrev pub arm_bit : (second : Bool) → LogicBit
 arm_bit true = Zero
 arm_bit false = One
 
-abbrev form_at : Family → (pos i : ℕ) → Form
+abbrev pub form_at : Family → (pos i : ℕ) → Form
 form_at (family.Join j) pos i t a b c = join_rule j t (operand_at a b.header i) (operand_at b a.header i)
 form_at family.Not pos i t a b c = not_bit (at a.bits i)
 form_at (family.Answer q) pos i t a b c = answer_bit q a b
@@ -72,9 +68,11 @@ form_at family.Insert pos i t a b c =
 -- ---- the result has the form at each place
 
 -- operands that are in order: each has as many bits as its header says, and the arms are not refused
-pub record Accepted (w : Work) (vs : List Vector) : Type 0 where
-  pub sound : (j : ℕ) → length (operand vs j).bits ≡ (operand vs j).header.width
-  pub arms : work_arms w (operand vs 1).header (operand vs 2).header ≡ false
+pub record Accepted (k : Family) (a b c : Vector) : Type 0 where
+  pub first : length a.bits ≡ a.header.width
+  pub second : length b.bits ≡ b.header.width
+  pub third : length c.bits ≡ c.header.width
+  pub arms : family_refused k b.header c.header ≡ false
 
 join-rule : (j : Bitwise) → op_bit j ≡ join_rule j X
 join-rule bitwise.And = refl
@@ -88,18 +86,18 @@ no-fills false true q e = absurd (subst T e tt)
 no-fills false false true e = absurd (subst T e tt)
 no-fills false false false e = (tt, tt)
 
-select-form : (b c : Vector) → length b.bits ≡ b.header.width → length c.bits ≡ c.header.width → arms_differ b.header c.header ≡ false
-    → (t : Truth) (i : ℕ) → i < length (selected t b c) → at (selected t b c) i ≡ select_bit (truth_bit t) (at b.bits i) (at c.bits i)
-select-form b c hb hc h truth.True i l = refl
-select-form b c hb hc h truth.False i l = refl
-select-form b c hb hc h truth.Unknown i l =
+select-form : (a b c : Vector) → Accepted family.Select a b c → (t : Truth) (i : ℕ) → i < length (selected t b c)
+    → at (selected t b c) i ≡ select_bit (truth_bit t) (at b.bits i) (at c.bits i)
+select-form a b c f truth.True i l = refl
+select-form a b c f truth.False i l = refl
+select-form a b c f truth.Unknown i l =
     let n : ℕ = larger_width b.header c.header in
     let m : i < n = subst (λ (n : ℕ). i < n) (length-tabulate n _) l in
-    let p = no-fills (not (eqb b.header.width c.header.width)) b.header.is_fill c.header.is_fill h in
-    let e = arms-alike b.header c.header h in
+    let p = no-fills (not (eqb b.header.width c.header.width)) b.header.is_fill c.header.is_fill f.arms in
+    let e = arms-alike b.header c.header f.arms in
     get_d_tabulate n _ i Zero m
-    ∙ ap₂ (select_bit X) (read_left b c hb hc p.0 p.1 (λ _. sym e) i m)
-    (read_right b c hb hc p.0 p.1 (λ _. sym e) i m)
+    ∙ ap₂ (select_bit X) (read_left b c f.second f.third p.0 p.1 (λ _. sym e) i m)
+    (read_right b c f.second f.third p.0 p.1 (λ _. sym e) i m)
 
 insert-form : (b : Vector) (pos n i : ℕ) (x : LogicBit) → n < 65
     → cond (within pos n i) (bit_of (packed (at b.bits)) (i - pos)) x ≡ cond (within pos n i) (at b.bits (i - pos)) x
@@ -111,20 +109,8 @@ insert-form b pos n i x l = go (leb pos i) (ltb i (pos + n)) refl refl
     go true false e f = refl
     go false z e f = refl
 
-module _ (vs : List Vector) (pos i : ℕ) where
-  abbrev a : Vector
-  a = operand vs 0
-
-  abbrev b : Vector
-  b = operand vs 1
-
-  abbrev c : Vector
-  c = operand vs 2
-
-  abbrev bits : Family → List LogicBit
-  bits k = work_bits (work.Cells k) vs pos
-
-  made-form : (k : Family) → Accepted (work.Cells k) vs → i < length (bits k) → at (bits k) i ≡ form_at k pos i X a b c
+module _ (a b c : Vector) (pos i : ℕ) where
+  pub made-form : (k : Family) → Accepted k a b c → i < length (family_bits k a b c pos) → at (family_bits k a b c pos) i ≡ form_at k pos i X a b c
   made-form (family.Join j) f l =
       let n : ℕ = larger_width a.header b.header in
       get_d_tabulate n _ i Zero (subst (λ (n : ℕ). i < n) (length-tabulate n _) l)
@@ -136,14 +122,14 @@ module _ (vs : List Vector) (pos i : ℕ) where
       one : (i : ℕ) → i < 1 → at (answer_bit q a b ∷ []) i ≡ answer_bit q a b
       one zero l = refl
       one (suc i) l = absurd (not-suc-le-zero (le_of_suc-le-suc l))
-  made-form family.Select f l = select-form b c (f.sound 1) (f.sound 2) f.arms (truth_of a.bits) i l
+  made-form family.Select f l = select-form a b c f (truth_of a.bits) i l
   made-form family.Insert f l =
       let n : ℕ = length a.bits in
       get_d_tabulate n _ i Zero (subst (λ (n : ℕ). i < n) (length-tabulate n _) l)
       ∙ insert-form b pos (splice_count (length a.bits) pos b.header.width) i (at a.bits i) (omega arith)
 
-  given-form : (k : Family) → Accepted (work.Cells k) vs → i < length (bits k) → (second : Bool)
-      → cond (merges (work.Cells k)) (arm_at second a b i) (at (bits k) i) ≡ form_at k pos i (arm_bit second) a b c
+  pub given-form : (k : Family) → Accepted k a b c → i < length (family_bits k a b c pos) → (second : Bool)
+      → cond (merges k) (arm_at second a b i) (at (family_bits k a b c pos) i) ≡ form_at k pos i (arm_bit second) a b c
   given-form (family.Join bitwise.And) f l second = made-form (family.Join bitwise.And) f l
   given-form (family.Join bitwise.Or) f l second = made-form (family.Join bitwise.Or) f l
   given-form (family.Join bitwise.Xor) f l second = made-form (family.Join bitwise.Xor) f l
@@ -153,46 +139,6 @@ module _ (vs : List Vector) (pos i : ℕ) where
   given-form (family.Answer q) f l second = made-form (family.Answer q) f l
   given-form family.Select f l second = made-form family.Select f l
   given-form family.Insert f l second = made-form family.Insert f l
-
--- ---- the ops
-
-abbrev cells-only : (op : Op) → T (keeps_known op) → (k : Family) × (work_of op ≡ work.Cells k)
-cells-only And h = (family.Join bitwise.And, refl)
-cells-only Or h = (family.Join bitwise.Or, refl)
-cells-only Xor h = (family.Join bitwise.Xor, refl)
-cells-only Not h = (family.Not, refl)
-cells-only Merge h = (family.Join bitwise.Merge, refl)
-cells-only ReduceAnd h = (family.Answer question.ReduceAnd, refl)
-cells-only ReduceOr h = (family.Answer question.ReduceOr, refl)
-cells-only ReduceXor h = (family.Answer question.ReduceXor, refl)
-cells-only Equal h = (family.Answer (question.Compare comparison.Equal), refl)
-cells-only CaseEqual h = absurd h
-cells-only CasezEqual h = absurd h
-cells-only CasexEqual h = absurd h
-cells-only WildcardEqual h = absurd h
-cells-only LogicAnd h = (family.Answer question.LogicAnd, refl)
-cells-only LogicOr h = (family.Answer question.LogicOr, refl)
-cells-only Select h = (family.Select, refl)
-cells-only Insert h = (family.Insert, refl)
-cells-only Inside h = absurd h
-
--- the form of an op
-abbrev pub op_form : (op : Op) → T (keeps_known op) → (pos i : ℕ) → Form
-op_form op h pos i = form_at (cells-only op h).0 pos i
-
-module _ (op : Op) (h : T (keeps_known op)) (pos i : ℕ) (vs : List Vector) where
-  -- at the operands vs
-  abbrev form_of : LogicBit → LogicBit
-  form_of t = op_form op h pos i t (operand vs 0) (operand vs 1) (operand vs 2)
-
-  pub made-op : Accepted (work_of op) vs → i < length (op_bits op vs pos) → at (op_bits op vs pos) i ≡ form_of X
-  made-op = subst (λ (w : Work). Accepted w vs → i < length (work_bits w vs pos) → at (work_bits w vs pos) i ≡ form_of X)
-      (sym (cells-only op h).1) (made-form vs pos i (cells-only op h).0)
-
-  pub given-op : Accepted (work_of op) vs → i < length (op_bits op vs pos) → (second : Bool) → gives op pos second vs i ≡ form_of (arm_bit second)
-  given-op = subst (λ (w : Work). Accepted w vs → i < length (work_bits w vs pos) → (second : Bool)
-      → cond (merges w) (arm_at second (operand vs 0) (operand vs 1) i) (at (work_bits w vs pos) i) ≡ form_of (arm_bit second))
-      (sym (cells-only op h).1) (given-form vs pos i (cells-only op h).0)
 
 -- ---- what holds of the forms
 
@@ -247,25 +193,24 @@ module _ (pos i : ℕ) where
       (of_two (Proper Insert) (λ s. pick_rule (z s)) (λ s. exact-pick (z s)) (λ s a. at a.bits i) (λ s b. at b.bits (i - pos))
       (λ s. of-bit i) (λ s. of-bit (i - pos)))
 
-  pub law : (op : Op) (h : T (keeps_known op)) → Law op (op_form op h pos i)
-  law And h = by-join And bitwise.And
-  law Or h = by-join Or bitwise.Or
-  law Xor h = by-join Xor bitwise.Xor
-  law Not h = by-readings Not (λ t a b. not_bit a) exact-not (λ a. at a.bits i) (λ b. at b.bits i) (of-bit i) (of-bit i)
-  law Merge h = by-join Merge bitwise.Merge
-  law ReduceAnd h = by-reading ReduceAnd (λ a. reduce_and a.bits) of_and
-  law ReduceOr h = by-reading ReduceOr (λ a. reduce_or a.bits) of_or
-  law ReduceXor h = by-reading ReduceXor (λ a. reduce_xor a.bits) of_xor
-  law Equal h = exactly Equal (λ t a b c. compared comparison.Equal a b) (of-equal (Proper Equal) (λ a b c h. h refl))
-  law CaseEqual h = absurd h
-  law CasezEqual h = absurd h
-  law CasexEqual h = absurd h
-  law WildcardEqual h = absurd h
-  law LogicAnd h = by-readings LogicAnd (λ t. and_bit) exact_and vector_truth vector_truth of-truth of-truth
-  law LogicOr h = by-readings LogicOr (λ t. or_bit) exact-or vector_truth vector_truth of-truth of-truth
-  law Select h = by-select
-  law Insert h = by-insert
-  law Inside h = absurd h
+  pub law : (op : Op) → T (keeps_known op) → Law op (form_at (family_of op) pos i)
+  law And k = by-join And bitwise.And
+  law Or k = by-join Or bitwise.Or
+  law Xor k = by-join Xor bitwise.Xor
+  law Not k = by-readings Not (λ t a b. not_bit a) exact-not (λ a. at a.bits i) (λ b. at b.bits i) (of-bit i) (of-bit i)
+  law Merge k = by-join Merge bitwise.Merge
+  law ReduceAnd k = by-reading ReduceAnd (λ a. reduce_and a.bits) of_and
+  law ReduceOr k = by-reading ReduceOr (λ a. reduce_or a.bits) of_or
+  law ReduceXor k = by-reading ReduceXor (λ a. reduce_xor a.bits) of_xor
+  law Equal k = exactly Equal (λ t a b c. compared comparison.Equal a b) (of-equal (Proper Equal) (λ a b c h. h refl))
+  law CaseEqual k = absurd k
+  law CasezEqual k = absurd k
+  law CasexEqual k = absurd k
+  law WildcardEqual k = absurd k
+  law LogicAnd k = by-readings LogicAnd (λ t. and_bit) exact_and vector_truth vector_truth of-truth of-truth
+  law LogicOr k = by-readings LogicOr (λ t. or_bit) exact-or vector_truth vector_truth of-truth of-truth
+  law Select k = by-select
+  law Insert k = by-insert
 
 -- what is known exactly is kept
 pub exact-keeps : (op : Op) → T (is_exact op) → T (keeps_known op)

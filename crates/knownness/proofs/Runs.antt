@@ -5,7 +5,8 @@
 --     alike          so do those from cells and from cells that refine them
 --     step-exact, exact     each step that is run is known exactly
 use mathlib.Core.Path.{◌≡◌, refl, sym, ◌∙◌, subst, ap, ap₂}
-use mathlib.Core.List.{List, [], ◌∷◌, ◌++◌, map, append_assoc}
+use mathlib.Core.Bool.{false}
+use mathlib.Core.List.{List, [], ◌∷◌, ◌++◌, append_assoc}
 use Prim.Native.Nat.{ℕ, zero, suc, ◌+◌, ◌<◌}
 use native.Mathlib.Omega.{arith}
 use lib.ListN.{length, take, length-append}
@@ -16,18 +17,15 @@ use Rattle.refusal.specs.Outcome.{Answer}
 use Rattle.refusal.specs.Outcome.Answer.{given, refused}
 use Rattle.words.specs.Vector.{at}
 use Rattle.value.specs.declared.Header.{Header}
-use Rattle.value.specs.Checks.{Vector}
 use Rattle.ops.specs.declared.Step.{Step}
-use Rattle.ops.specs.declared.Op.{Op}
-use Rattle.ops.specs.Ops.{work_of, work_reads, cells_read, operand}
+use Rattle.ops.specs.Ops.{family_of, arms_refused}
 use Rattle.machine.specs.declared.Room.{Room}
-use Rattle.machine.specs.Machine.{Cell, headers_of, empty_cell, vector_at, check_step, operands_of, step_header, step_cell, Run, onward, run_from, machine_run}
-use Rattle.knownness.specs.Knownness.{step_at, AllKeep, Keeps, Refines, Pointwise, Cellwise, AllSound, ExactStep, EqualityComparable, Exactable, ExactCells, Alike, KnownKept}
+use Rattle.machine.specs.Machine.{Cell, headers_of, empty_cell, vector_at, check_step, step_cell, Run, onward, run_from, machine_run}
+use Rattle.knownness.specs.Knownness.{step_at, AllKeep, Keeps, Refines, Pointwise, Cellwise, AllSound, ExactStep, Exactable, ExactCells, Alike, KnownKept}
 use Rattle.knownness.proofs.Bits.{refines-keeps, keeps-refl}
-use Rattle.knownness.proofs.Equality.{Paired}
-use Rattle.knownness.proofs.Ops.{Proper}
-use Rattle.knownness.proofs.Steps.{width-again, each-mapped, op-keeps, op-exact}
-use Rattle.knownness.proofs.Machine.{more, operands-accepted, same-ending, prefix, at_more, step-sound}
+use Rattle.knownness.proofs.Ops.{Accepted}
+use Rattle.knownness.proofs.Steps.{width-again, op-keeps, op-exact}
+use Rattle.knownness.proofs.Machine.{more, arms-accepted, same-ending, prefix, at_more, step-sound}
 
 -- ---- cells that are alike place by place
 
@@ -56,19 +54,16 @@ keeps-more cs ds c d h p = (
 
 -- ---- one step
 
--- the operands of an equality are the cells that a and b name
-proper : (cs : List Cell) (s : Step) → AllSound cs → EqualityComparable cs s
-    → Proper s.op (operand (operands_of cs s) 0) (operand (operands_of cs s) 1) (operand (operands_of cs s) 2)
-proper cs s a x q = subst (λ (o : Op). Paired (read o 0) (read o 1)) (sym q) (record { left = a s.a; right = a s.b; comparable = x q })
-  where
-    read : Op → ℕ → Vector
-    read o i = operand (map (vector_at cs) (work_reads (work_of o) s.a s.b s.c)) i
+accepted : (cs : List Cell) (s : Step) → AllSound cs → arms_refused s.op (vector_at cs s.b).header (vector_at cs s.c).header ≡ false
+    → Accepted (family_of s.op) (vector_at cs s.a) (vector_at cs s.b) (vector_at cs s.c)
+accepted cs s a e = record { first = a s.a; second = a s.b; third = a s.c; arms = e }
 
 module _ (r : Room) where
   pub step-exact : (cs : List Cell) (s : Step) (u : Unit) → check_step r (headers_of cs) s ≡ given u → AllSound cs → Exactable cs s
       → ExactStep cs s (step_cell cs s).vector
   step-exact cs s u e a x i l v kv =
-      op-exact s.op s.c (operands_of cs s) (operands-accepted r cs s u e a) x.0 i l v kv (proper cs s a x.1)
+      op-exact s.op s.c (vector_at cs s.a) (vector_at cs s.b) (vector_at cs s.c) (accepted cs s a (arms-accepted r cs s u e)) x.0 i l v kv
+      (λ q. record { left = a s.a; right = a s.b; comparable = x.1 q })
 
   -- ---- the run
 
@@ -83,9 +78,9 @@ module _ (r : Room) where
     where
       step : (u : Unit) → check_step r (headers_of cs) s ≡ given u → Cellwise Keeps (more cs s) (more ds s)
       step u e =
-          let w = op-keeps s.op s.c (operands_of cs s) (operands-accepted r cs s u e a) (operands_of ds s)
-          (each-mapped Keeps (keeps-refl Zero) (vector_at cs) (vector_at ds) h.1 (cells_read s)) (l zero) in
-          keeps-more cs ds (step_cell cs s) (step_cell ds s) h (ap (λ hs. step_header hs s) (headers-again Keeps cs ds h), w.0, w.1)
+          keeps-more cs ds (step_cell cs s) (step_cell ds s) h
+          (op-keeps s.op s.c (vector_at cs s.a) (vector_at cs s.b) (vector_at cs s.c) (accepted cs s a (arms-accepted r cs s u e))
+          (vector_at ds s.a) (vector_at ds s.b) (vector_at ds s.c) (h.1 s.a) (h.1 s.b) (h.1 s.c) (l zero))
 
       go : (p q : Run) (o u : Answer Unit) → u ≡ o → check_step r (headers_of cs) s ≡ o
           → (AllSound (more cs s) → Cellwise Keeps (more cs s) (more ds s) → Cellwise Keeps p.cells q.cells)

@@ -10,18 +10,17 @@ use Rattle.value.specs.Checks.{Vector}
 use Rattle.lanes.specs.declared.Bitwise.TheVariants as bitwise
 use Rattle.extension.specs.Extension.{operand_at}
 use Rattle.ops.specs.declared.Op.{Op}
-use Rattle.ops.specs.declared.Op.TheVariants.{And, Or, Xor, Not, Merge, ReduceAnd, ReduceOr, ReduceXor, Equal, CaseEqual, CasezEqual, CasexEqual, WildcardEqual, LogicAnd, LogicOr, Select, Insert, Inside}
+use Rattle.ops.specs.declared.Op.TheVariants.{And, Or, Xor, Not, Merge, ReduceAnd, ReduceOr, ReduceXor, Equal, CaseEqual, CasezEqual, CasexEqual, WildcardEqual, LogicAnd, LogicOr, Select, Insert}
 use Rattle.ops.specs.declared.Step.{Step}
+use Rattle.ops.specs.declared.Family.{Family}
 use Rattle.ops.specs.declared.Family.TheVariants as family
-use Rattle.ops.specs.declared.Work.{Work}
-use Rattle.ops.specs.declared.Work.TheVariants as work
-use Rattle.ops.specs.Ops.{no_step, work_of, operand, op_bits}
+use Rattle.ops.specs.Ops.{no_step, family_of, op_bits}
 use Rattle.machine.specs.declared.Room.{Room}
-use Rattle.machine.specs.Machine.{Cell, headers_of, vector_at, check_step, operands_of, step_cell, machine_run}
+use Rattle.machine.specs.Machine.{Cell, headers_of, vector_at, check_step, step_cell, machine_run}
 
 -- ---- the ops
 
--- the ops of demand 3's lists, all but the case and wildcard comparisons and inside: a step of one keeps known bits
+-- the ops of demand 3's lists, all but the case and wildcard comparisons: a step of one keeps known bits
 abbrev pub keeps_known : Op → Bool
 keeps_known And = true
 keeps_known Or = true
@@ -40,7 +39,6 @@ keeps_known LogicAnd = true
 keeps_known LogicOr = true
 keeps_known Select = true
 keeps_known Insert = true
-keeps_known Inside = false
 
 -- the ops whose result is known exactly where all completions agree, an equality's where its operands are comparable
 abbrev pub is_exact : Op → Bool
@@ -77,10 +75,6 @@ Completes a r = Known r × Keeps a r
 abbrev pub Pointwise : (LogicBit → LogicBit → Type 0) → Vector → Vector → Type 0
 Pointwise R a b = (b.header ≡ a.header) × (length b.bits ≡ length a.bits) × ((i : ℕ) → R (at a.bits i) (at b.bits i))
 
--- as many vectors, and R of each two bits
-abbrev pub Each : (LogicBit → LogicBit → Type 0) → List Vector → List Vector → Type 0
-Each R vs ws = (length ws ≡ length vs) × ((j : ℕ) → Pointwise R (operand vs j) (operand ws j))
-
 -- as many cells, and R of each two bits
 abbrev pub Cellwise : (LogicBit → LogicBit → Type 0) → List Cell → List Cell → Type 0
 Cellwise R A B = (length B ≡ length A) × ((j : ℕ) → Pointwise R (vector_at A j) (vector_at B j))
@@ -92,16 +86,15 @@ AllSound cs = (j : ℕ) → length (vector_at cs j).bits ≡ (vector_at cs j).he
 -- ---- a step that is known exactly
 
 -- merge: what it gives is read from either of its operands, and not from its result
-abbrev pub merges : Work → Bool
-merges (work.Cells (family.Join bitwise.And)) = false
-merges (work.Cells (family.Join bitwise.Or)) = false
-merges (work.Cells (family.Join bitwise.Xor)) = false
-merges (work.Cells (family.Join bitwise.Merge)) = true
-merges (work.Cells family.Not) = false
-merges (work.Cells (family.Answer q)) = false
-merges (work.Cells family.Select) = false
-merges (work.Cells family.Insert) = false
-merges work.Inside = false
+abbrev pub merges : Family → Bool
+merges (family.Join bitwise.And) = false
+merges (family.Join bitwise.Or) = false
+merges (family.Join bitwise.Xor) = false
+merges (family.Join bitwise.Merge) = true
+merges family.Not = false
+merges (family.Answer q) = false
+merges family.Select = false
+merges family.Insert = false
 
 -- the arms of a merge are its two operands, extended
 abbrev pub arm_at : (second : Bool) → Vector → Vector → ℕ → LogicBit
@@ -109,12 +102,13 @@ arm_at true a b i = operand_at b a.header i
 arm_at false a b i = operand_at a b.header i
 
 -- what the op has at place i of the completed operands; in a merge, either arm
-abbrev pub gives : Op → ℕ → (second : Bool) → List Vector → ℕ → LogicBit
-gives op pos second vs i = cond (merges (work_of op)) (arm_at second (operand vs 0) (operand vs 1) i) (at (op_bits op vs pos) i)
+abbrev pub gives : Op → ℕ → (second : Bool) → Vector → Vector → Vector → ℕ → LogicBit
+gives op pos second a b c i = cond (merges (family_of op)) (arm_at second a b i) (at (op_bits op a b c pos) i)
 
 -- every completion of the operands, of each on its own even where two name one cell, gives v at place i
 abbrev pub AllGive : List Cell → Step → ℕ → LogicBit → Type 0
-AllGive cs s i v = (vs : List Vector) → Each Completes (operands_of cs s) vs → (second : Bool) → gives s.op s.c second vs i ≡ v
+AllGive cs s i v = (a b c : Vector) → Pointwise Completes (vector_at cs s.a) a → Pointwise Completes (vector_at cs s.b) b
+    → Pointwise Completes (vector_at cs s.c) c → (second : Bool) → gives s.op s.c second a b c i ≡ v
 
 -- each bit of the vector made is known as v exactly if all completions of the operands give v
 abbrev pub ExactStep : List Cell → Step → Vector → Type 0

@@ -1,5 +1,5 @@
 -- Document 01, "The runs of demand 3": the plain machine. A cell of it holds a vector, and of memory it knows only how many words there are. What
--- is refused goes by the headers of the cells alone; conditions and order are those of "Numbers for what is not done" and of document 02, point 6.
+-- is refused goes by the headers of the cells alone; conditions and order are those of "Numbers for what is not done".
 use Rattle.std.specs.Prelude.{Bool, ◌&&◌, ◌||◌, cond, List, [], ◌∷◌, ◌++◌, map, ℕ, suc, ◌+◌, ◌-◌, leb, ltb, length, get_or}
 use Rattle.refusal.specs.Outcome.{Answer, after}
 use Rattle.refusal.specs.Outcome.Answer.{given, refused}
@@ -7,7 +7,7 @@ use Rattle.words.specs.Planes.{word_count}
 use Rattle.value.specs.declared.Header.{Header}
 use Rattle.value.specs.Checks.{plain, Vector}
 use Rattle.ops.specs.declared.Step.{Step}
-use Rattle.ops.specs.Ops.{operands, cells_read, arms_refused, items_refused, op_header, empty_vector, op_bits}
+use Rattle.ops.specs.Ops.{operands, arms_refused, op_header, op_vector}
 use Rattle.machine.specs.declared.Room.{Room}
 
 -- ---- cells
@@ -23,7 +23,7 @@ headers_of cs = map (λ (c : Cell). c.vector.header) cs
 
 -- a cell of no bits: it is read where a number names no cell, which only an operand that the op does not use can do in a step that is run
 abbrev pub empty_cell : Cell
-empty_cell = holding empty_vector
+empty_cell = holding (record { header = plain 0; bits = [] })
 
 abbrev pub cell_at : List Cell → ℕ → Cell
 cell_at cs j = get_or cs j empty_cell
@@ -57,10 +57,6 @@ check_names n s = cond (names n s) (given tt) (refused 11)
 abbrev pub check_arms : List Header → Step → Answer Unit
 check_arms hs s = cond (arms_refused s.op (header_at hs s.b) (header_at hs s.c)) (refused 7) (given tt)
 
--- 16, more than 64 items
-abbrev pub check_items : Step → Answer Unit
-check_items s = cond (items_refused s.op s.b s.c) (refused 16) (given tt)
-
 -- 13, an arena of which the cells take the first n words has fewer words behind them than a cell of width w takes
 abbrev pub check_room : Room → ℕ → ℕ → Answer Unit
 check_room r n w = cond (ltb (r.arena - n) (word_count w)) (refused 13) (given tt)
@@ -76,24 +72,19 @@ check_scratch r w = cond (ltb r.scratch (word_count w)) (refused 13) (given tt)
 abbrev pub step_header : List Header → Step → Header
 step_header hs s = op_header s.op (header_at hs s.a) (header_at hs s.b) (header_at hs s.c)
 
--- 12, 11, 7, 16, then 13, behind cells of the headers hs
+-- 12, 11, 7, then 13, behind cells of the headers hs
 unfoldable pub check_step : Room → List Header → Step → Answer Unit
 check_step r hs s =
     after (check_count (length hs))
     (after (check_names (length hs) s)
     (after (check_arms hs s)
-    (after (check_items s)
-    (after (check_room r (words_taken hs) (step_header hs s).width) (check_scratch r (step_header hs s).width)))))
+    (after (check_room r (words_taken hs) (step_header hs s).width) (check_scratch r (step_header hs s).width))))
 
 -- ---- the run
 
--- a step's operands, in order
-abbrev pub operands_of : List Cell → Step → List Vector
-operands_of cs s = map (vector_at cs) (cells_read s)
-
--- what the documents give for the step and the cells it names
+-- what document 01 gives for the step and the cells it names
 abbrev pub step_cell : List Cell → Step → Cell
-step_cell cs s = holding (record { header = step_header (headers_of cs) s; bits = op_bits s.op (operands_of cs s) s.c })
+step_cell cs s = holding (op_vector s.op (vector_at cs s.a) (vector_at cs s.b) (vector_at cs s.c) s.c)
 
 -- the list's end, and how many steps were run, or a refusal's number and step (from 1; 0 for the file or an input)
 pub data Ending : Type 0 where

@@ -1,48 +1,48 @@
--- The header of a result, by those of the operands, is one that a vector can have.
---     result-narrow   it is no wider than a vector may be
---     result-fill     it is no fill of width 0
+-- The result of an op on accepted operands is a vector that is accepted again.
 use mathlib.Core.Path.{◌≡◌, sym, subst}
-use mathlib.Core.Bool.{true}
-use Prim.Native.Nat.{◌≤◌}
+use mathlib.Core.Bool.{true, false}
+use Prim.Native.Nat.{ℕ, ◌≤◌}
 use native.Mathlib.Omega.{arith}
 use lib.Dec.{T}
-use Rattle.value.specs.Checks.{max_width}
+use lib.ListN.{length}
+use Rattle.words.specs.Planes.{Planes, Plane, value_plane, unknown_plane, planes_of}
+use Rattle.words.proofs.Planes.{length-tabulate, value-plane, unknown-plane}
+use Rattle.value.specs.Checks.{max_width, vector}
 use Rattle.value.specs.declared.Header.{Header}
+use Rattle.value.proofs.Checks.{Sound}
 use Rattle.ops.specs.declared.Op.{Op}
 use Rattle.ops.specs.declared.Family.{Family}
 use Rattle.ops.specs.declared.Family.TheVariants as family
-use Rattle.ops.specs.declared.Work.{Work}
-use Rattle.ops.specs.declared.Work.TheVariants as work
-use Rattle.ops.specs.Ops.{work_of, family_header, work_header, op_header}
+use Rattle.ops.specs.Ops.{family_of, arms_refused, family_header, op_header, op_bits}
+use Rattle.ops.proofs.Results.{result-width}
 
-module _ (a b c : Header) where
-  module _ (ha : a.width ≤ max_width) (hb : b.width ≤ max_width) where
-    narrow : (k : Family) → (family_header k a b c).width ≤ max_width
-    narrow (family.Join j) = omega (arith, ha, hb)
-    narrow family.Not = ha
-    narrow (family.Answer q) = omega arith
-    narrow family.Select = hb
-    narrow family.Insert = ha
+module _ (a b c : Header) (p q r : Planes) (pos : ℕ) (ha : Sound a p) (hb : Sound b q) (hc : Sound c r) where
+  narrow : (k : Family) → (family_header k a b c).width ≤ max_width
+  narrow (family.Join j) = omega (arith, ha.planes.narrow, hb.planes.narrow)
+  narrow family.Not = ha.planes.narrow
+  narrow (family.Answer q) = omega arith
+  narrow family.Select = hb.planes.narrow
+  narrow family.Insert = ha.planes.narrow
 
-    work-narrow : (w : Work) → (work_header w a b c).width ≤ max_width
-    work-narrow (work.Cells k) = narrow k
-    work-narrow work.Inside = omega arith
+  -- only insert gives a fill, which has the width of its operand
+  no-empty-fill : (k : Family) → (family_header k a b c).is_fill ≡ true → (family_header k a b c).width ≡ 0 → ⊥
+  no-empty-fill (family.Join j) e z = subst T (sym e) tt
+  no-empty-fill family.Not e z = subst T (sym e) tt
+  no-empty-fill (family.Answer q) e z = subst T (sym e) tt
+  no-empty-fill family.Select e z = subst T (sym e) tt
+  no-empty-fill family.Insert e z = ha.fill e z
 
-    pub result-narrow : (op : Op) → (op_header op a b c).width ≤ max_width
-    result-narrow op = work-narrow (work_of op)
-
-  module _ (fill : a.is_fill ≡ true → a.width ≡ 0 → ⊥) where
-    -- only insert gives a fill, which has the width of its operand
-    no-empty-fill : (k : Family) → (family_header k a b c).is_fill ≡ true → (family_header k a b c).width ≡ 0 → ⊥
-    no-empty-fill (family.Join j) e z = subst T (sym e) tt
-    no-empty-fill family.Not e z = subst T (sym e) tt
-    no-empty-fill (family.Answer q) e z = subst T (sym e) tt
-    no-empty-fill family.Select e z = subst T (sym e) tt
-    no-empty-fill family.Insert e z = fill e z
-
-    work-fill : (w : Work) → (work_header w a b c).is_fill ≡ true → (work_header w a b c).width ≡ 0 → ⊥
-    work-fill (work.Cells k) e z = no-empty-fill k e z
-    work-fill work.Inside e z = subst T (sym e) tt
-
-    pub result-fill : (op : Op) → (op_header op a b c).is_fill ≡ true → (op_header op a b c).width ≡ 0 → ⊥
-    result-fill op = work-fill (work_of op)
+  pub result-sound : (op : Op) → arms_refused op b c ≡ false
+      → Sound (op_header op a b c) (planes_of (op_bits op (vector a p) (vector b q) (vector c r) pos))
+  result-sound op h =
+      let bs = op_bits op (vector a p) (vector b q) (vector c r) pos in
+      let e : length bs ≡ (op_header op a b c).width =
+      result-width (vector a p) (vector b q) (vector c r) pos (length-tabulate _ _) (length-tabulate _ _) (length-tabulate _ _) op h in
+      record {
+        planes = record {
+          narrow = narrow (family_of op);
+          value-plane = subst (λ (w : ℕ). Plane w (value_plane bs)) e (value-plane bs);
+          unknown-plane = subst (λ (w : ℕ). Plane w (unknown_plane bs)) e (unknown-plane bs);
+        };
+        fill = no-empty-fill (family_of op);
+      }

@@ -1,7 +1,7 @@
 -- Each op has a code of its own: it is the op of its code.
 use mathlib.Core.Path.{◌≡◌, refl}
 use Rattle.ops.specs.declared.Op.{Op}
-use Rattle.ops.specs.declared.Op.TheVariants.{And, Or, Xor, Not, Merge, ReduceAnd, ReduceOr, ReduceXor, Equal, CaseEqual, CasezEqual, CasexEqual, WildcardEqual, LogicAnd, LogicOr, Select, Insert, Inside}
+use Rattle.ops.specs.declared.Op.TheVariants.{And, Or, Xor, Not, Merge, ReduceAnd, ReduceOr, ReduceXor, Equal, CaseEqual, CasezEqual, CasexEqual, WildcardEqual, LogicAnd, LogicOr, Select, Insert}
 use Rattle.ops.specs.declared.OpAnswer.TheVariants as answer
 use Rattle.ops.specs.Names.{op_code, with_code, op_of}
 
@@ -24,4 +24,3 @@ op-of-code LogicAnd = refl
 op-of-code LogicOr = refl
 op-of-code Select = refl
 op-of-code Insert = refl
-op-of-code Inside = refl

@@ -1,4 +1,3 @@
 pub mod Results
 pub mod Accepted
 pub mod Codes
-pub mod Operands

@@ -1,9 +1,8 @@
 -- The results of the ops.
 --     arms-alike      arms that are not refused have one width
---     family-width, result-width     the result has as many bits as its header says
+--     result-width    the result has as many bits as its header says
 use mathlib.Core.Path.{◌≡◌, refl, sym, ap, ◌∙◌, subst}
 use mathlib.Core.Bool.{Bool, true, false, not, ◌||◌}
-use mathlib.Core.List.{List}
 use Prim.Native.Nat.{ℕ}
 use native.Mathlib.Omega.{arith}
 use borrow.Author.Tests.{eqb-true}
@@ -18,9 +17,7 @@ use Rattle.reduce_words.specs.Fold.{truth_of}
 use Rattle.ops.specs.declared.Op.{Op}
 use Rattle.ops.specs.declared.Family.{Family}
 use Rattle.ops.specs.declared.Family.TheVariants as family
-use Rattle.ops.specs.declared.Work.{Work}
-use Rattle.ops.specs.declared.Work.TheVariants as work
-use Rattle.ops.specs.Ops.{work_of, arms_differ, family_refused, work_arms, arms_refused, family_header, work_header, op_header, family_bits, selected, operand, work_bits, op_bits}
+use Rattle.ops.specs.Ops.{family_of, arms_differ, family_refused, arms_refused, family_header, family_bits, selected, op_vector}
 
 pub arms-alike : (b c : Header) → arms_differ b c ≡ false → c.width ≡ b.width
 arms-alike b c h = go (eqb b.width c.width) refl
@@ -35,7 +32,7 @@ module _ (a b c : Vector) (pos : ℕ) (ha : length a.bits ≡ a.header.width) (h
   select-width truth.False h = hc ∙ arms-alike b.header c.header h
   select-width truth.Unknown h = length-tabulate _ _ ∙ omega (arith, arms-alike b.header c.header h)
 
-  pub family-width : (k : Family) → family_refused k b.header c.header ≡ false
+  family-width : (k : Family) → family_refused k b.header c.header ≡ false
       → length (family_bits k a b c pos) ≡ (family_header k a.header b.header c.header).width
   family-width (family.Join j) h = length-tabulate _ _
   family-width family.Not h = length-tabulate _ _ ∙ ha
@@ -43,12 +40,6 @@ module _ (a b c : Vector) (pos : ℕ) (ha : length a.bits ≡ a.header.width) (h
   family-width family.Select h = select-width (truth_of a.bits) h
   family-width family.Insert h = length-tabulate _ _ ∙ ha
 
-module _ (vs : List Vector) (pos : ℕ) (sound : (i : ℕ) → length (operand vs i).bits ≡ (operand vs i).header.width) where
-  work-width : (w : Work) → work_arms w (operand vs 1).header (operand vs 2).header ≡ false
-      → length (work_bits w vs pos) ≡ (work_header w (operand vs 0).header (operand vs 1).header (operand vs 2).header).width
-  work-width (work.Cells k) h = family-width (operand vs 0) (operand vs 1) (operand vs 2) pos (sound 0) (sound 1) (sound 2) k h
-  work-width work.Inside h = refl
-
-  pub result-width : (op : Op) → arms_refused op (operand vs 1).header (operand vs 2).header ≡ false
-      → length (op_bits op vs pos) ≡ (op_header op (operand vs 0).header (operand vs 1).header (operand vs 2).header).width
-  result-width op h = work-width (work_of op) h
+  pub result-width : (op : Op) → arms_refused op b.header c.header ≡ false
+      → length (op_vector op a b c pos).bits ≡ (op_vector op a b c pos).header.width
+  result-width op h = family-width (family_of op) h

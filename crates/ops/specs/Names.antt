@@ -1,13 +1,13 @@
--- Document 01, "Step list": the names of the ops, in its order, and that of document 02, point 6; and the code that an op has in the exports.
+-- Document 01, "Step list": the names of the ops, in its order; and the code that an op has in the exports.
 use Rattle.std.specs.Prelude.{cond, ℕ, List, [], ◌∷◌, eqb}
 use Prim.Native.String.{String}
 use Rattle.ops.specs.declared.Op.{Op}
-use Rattle.ops.specs.declared.Op.TheVariants.{And, Or, Xor, Not, Merge, ReduceAnd, ReduceOr, ReduceXor, Equal, CaseEqual, CasezEqual, CasexEqual, WildcardEqual, LogicAnd, LogicOr, Select, Insert, Inside}
+use Rattle.ops.specs.declared.Op.TheVariants.{And, Or, Xor, Not, Merge, ReduceAnd, ReduceOr, ReduceXor, Equal, CaseEqual, CasezEqual, CasexEqual, WildcardEqual, LogicAnd, LogicOr, Select, Insert}
 use Rattle.ops.specs.declared.OpAnswer.{OpAnswer}
 use Rattle.ops.specs.declared.OpAnswer.TheVariants as answer
 
 abbrev pub all_ops : List Op
-all_ops = And ∷ Or ∷ Xor ∷ Not ∷ Merge ∷ ReduceAnd ∷ ReduceOr ∷ ReduceXor ∷ Equal ∷ CaseEqual ∷ CasezEqual ∷ CasexEqual ∷ WildcardEqual ∷ LogicAnd ∷ LogicOr ∷ Select ∷ Insert ∷ Inside ∷ []
+all_ops = And ∷ Or ∷ Xor ∷ Not ∷ Merge ∷ ReduceAnd ∷ ReduceOr ∷ ReduceXor ∷ Equal ∷ CaseEqual ∷ CasezEqual ∷ CasexEqual ∷ WildcardEqual ∷ LogicAnd ∷ LogicOr ∷ Select ∷ Insert ∷ []
 
 -- the name of an op in a step list
 abbrev pub op_name : Op → String
@@ -28,7 +28,6 @@ op_name LogicAnd = "land"
 op_name LogicOr = "lor"
 op_name Select = "sel"
 op_name Insert = "ins"
-op_name Inside = "in"
 
 -- ---- codes
 
@@ -51,7 +50,6 @@ op_code LogicAnd = 13
 op_code LogicOr = 14
 op_code Select = 15
 op_code Insert = 16
-op_code Inside = 17
 
 -- the op of code n in a list, or none
 unfoldable pub with_code : ℕ → List Op → OpAnswer

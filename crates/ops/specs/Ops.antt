@@ -1,9 +1,9 @@
 -- Document 01, "Step list": the ops. Each is worked out as the section "Result vector" or "Answer bit" has it, or document 02, point 2; select and
--- insert are told in "Step list" itself, and inside in document 02, point 6.
-use Rattle.std.specs.Prelude.{Bool, false, not, ◌&&◌, ◌||◌, List, [], ◌∷◌, map, ℕ, suc, ◌+◌, ◌-◌, eqb, ltb, take, drop, get_or}
+-- insert are told in "Step list" itself.
+use Rattle.std.specs.Prelude.{Bool, false, not, ◌&&◌, ◌||◌, List, [], ◌∷◌, ℕ, eqb}
 use Rattle.bit.specs.declared.LogicBit.{LogicBit}
 use Rattle.bit.specs.Rules.{and_bit, or_bit}
-use Rattle.words.specs.Vector.{at, tabulate}
+use Rattle.words.specs.Vector.{at}
 use Rattle.words.specs.Planes.{packed}
 use Rattle.bits.specs.Bits.{spliced}
 use Rattle.value.specs.declared.Header.{Header}
@@ -16,39 +16,36 @@ use Rattle.reduce_words.specs.Fold.{reduce_and, reduce_or, reduce_xor, truth_of,
 use Rattle.compare_words.specs.declared.Comparison.TheVariants as comparison
 use Rattle.compare_words.specs.Compared.{compared}
 use Rattle.ops.specs.declared.Op.{Op}
-use Rattle.ops.specs.declared.Op.TheVariants.{And, Or, Xor, Not, Merge, ReduceAnd, ReduceOr, ReduceXor, Equal, CaseEqual, CasezEqual, CasexEqual, WildcardEqual, LogicAnd, LogicOr, Select, Insert, Inside}
+use Rattle.ops.specs.declared.Op.TheVariants.{And, Or, Xor, Not, Merge, ReduceAnd, ReduceOr, ReduceXor, Equal, CaseEqual, CasezEqual, CasexEqual, WildcardEqual, LogicAnd, LogicOr, Select, Insert}
 use Rattle.ops.specs.declared.Step.{Step}
 use Rattle.ops.specs.declared.Question.{Question}
 use Rattle.ops.specs.declared.Question.TheVariants as question
 use Rattle.ops.specs.declared.Family.{Family}
 use Rattle.ops.specs.declared.Family.TheVariants as family
-use Rattle.ops.specs.declared.Work.{Work}
-use Rattle.ops.specs.declared.Work.TheVariants as work
 
 -- the step that is read past the end of a list
 abbrev pub no_step : Step
 no_step = record { op = And; a = 0; b = 0; c = 0 }
 
--- and, or, xor and merge join two vectors; an op of "Answer bit" asks a question; inside alone has a set of items
-abbrev pub work_of : Op → Work
-work_of And = work.Cells (family.Join bitwise.And)
-work_of Or = work.Cells (family.Join bitwise.Or)
-work_of Xor = work.Cells (family.Join bitwise.Xor)
-work_of Not = work.Cells family.Not
-work_of Merge = work.Cells (family.Join bitwise.Merge)
-work_of ReduceAnd = work.Cells (family.Answer question.ReduceAnd)
-work_of ReduceOr = work.Cells (family.Answer question.ReduceOr)
-work_of ReduceXor = work.Cells (family.Answer question.ReduceXor)
-work_of Equal = work.Cells (family.Answer (question.Compare comparison.Equal))
-work_of CaseEqual = work.Cells (family.Answer (question.Compare comparison.CaseEqual))
-work_of CasezEqual = work.Cells (family.Answer (question.Compare comparison.CasezEqual))
-work_of CasexEqual = work.Cells (family.Answer (question.Compare comparison.CasexEqual))
-work_of WildcardEqual = work.Cells (family.Answer (question.Compare comparison.WildcardEqual))
-work_of LogicAnd = work.Cells (family.Answer question.LogicAnd)
-work_of LogicOr = work.Cells (family.Answer question.LogicOr)
-work_of Select = work.Cells family.Select
-work_of Insert = work.Cells family.Insert
-work_of Inside = work.Inside
+-- and, or, xor and merge join two vectors; an op of "Answer bit" asks a question
+abbrev pub family_of : Op → Family
+family_of And = family.Join bitwise.And
+family_of Or = family.Join bitwise.Or
+family_of Xor = family.Join bitwise.Xor
+family_of Not = family.Not
+family_of Merge = family.Join bitwise.Merge
+family_of ReduceAnd = family.Answer question.ReduceAnd
+family_of ReduceOr = family.Answer question.ReduceOr
+family_of ReduceXor = family.Answer question.ReduceXor
+family_of Equal = family.Answer (question.Compare comparison.Equal)
+family_of CaseEqual = family.Answer (question.Compare comparison.CaseEqual)
+family_of CasezEqual = family.Answer (question.Compare comparison.CasezEqual)
+family_of CasexEqual = family.Answer (question.Compare comparison.CasexEqual)
+family_of WildcardEqual = family.Answer (question.Compare comparison.WildcardEqual)
+family_of LogicAnd = family.Answer question.LogicAnd
+family_of LogicOr = family.Answer question.LogicOr
+family_of Select = family.Select
+family_of Insert = family.Insert
 
 -- ---- how many cells an op names
 
@@ -69,13 +66,8 @@ family_operands (family.Answer q) = question_operands q
 family_operands family.Select = 3
 family_operands family.Insert = 2
 
--- inside names its value, its first item and its last
-abbrev pub work_operands : Work → ℕ
-work_operands (work.Cells k) = family_operands k
-work_operands work.Inside = 3
-
 abbrev pub operands : Op → ℕ
-operands op = work_operands (work_of op)
+operands op = family_operands (family_of op)
 
 -- how many of a, b and c an op uses, the first ones: the cells that it names, and the position of insert
 abbrev pub family_uses : Family → ℕ
@@ -85,26 +77,8 @@ family_uses (family.Answer q) = question_operands q
 family_uses family.Select = 3
 family_uses family.Insert = 3
 
-abbrev pub work_uses : Work → ℕ
-work_uses (work.Cells k) = family_uses k
-work_uses work.Inside = 3
-
 abbrev pub uses : Op → ℕ
-uses op = work_uses (work_of op)
-
--- ---- the cells whose bits a step reads
-
--- the numbers from b up to c; none where b exceeds c
-abbrev pub up_to : (b c : ℕ) → List ℕ
-up_to b c = tabulate (suc c - b) (λ i. b + i)
-
--- its operands, in order: the cells that it names; of inside the value, and then its items, the cells from b up to c (document 02, point 6)
-abbrev pub work_reads : Work → (a b c : ℕ) → List ℕ
-work_reads (work.Cells k) a b c = take (family_operands k) (a ∷ b ∷ c ∷ [])
-work_reads work.Inside a b c = a ∷ up_to b c
-
-abbrev pub cells_read : Step → List ℕ
-cells_read s = work_reads (work_of s.op) s.a s.b s.c
+uses op = family_uses (family_of op)
 
 -- ---- "Numbers for what is not done", 7
 
@@ -120,22 +94,8 @@ family_refused (family.Answer q) b c = false
 family_refused family.Select b c = arms_differ b c
 family_refused family.Insert b c = false
 
-abbrev pub work_arms : Work → Header → Header → Bool
-work_arms (work.Cells k) b c = family_refused k b c
-work_arms work.Inside b c = false
-
 abbrev pub arms_refused : Op → Header → Header → Bool
-arms_refused op b c = work_arms (work_of op) b c
-
--- ---- document 02, point 6: 16
-
--- more than 64 items
-abbrev pub work_items : Work → (b c : ℕ) → Bool
-work_items (work.Cells k) b c = false
-work_items work.Inside b c = ltb 64 (suc c - b)
-
-abbrev pub items_refused : Op → (b c : ℕ) → Bool
-items_refused op b c = work_items (work_of op) b c
+arms_refused op b c = family_refused (family_of op) b c
 
 -- ---- the header of the result, by the headers of the operands alone
 
@@ -151,12 +111,8 @@ family_header (family.Answer q) a b c = plain 1
 family_header family.Select a b c = select_header b c
 family_header family.Insert a b c = a
 
-abbrev pub work_header : Work → Header → Header → Header → Header
-work_header (work.Cells k) a b c = family_header k a b c
-work_header work.Inside a b c = plain 1
-
 abbrev pub op_header : Op → Header → Header → Header → Header
-op_header op a b c = work_header (work_of op) a b c
+op_header op a b c = family_header (family_of op) a b c
 
 -- ---- the bits of the result
 
@@ -191,22 +147,9 @@ family_bits (family.Answer q) a b c pos = answer_bit q a b ∷ []
 family_bits family.Select a b c pos = selected (truth_of a.bits) b c
 family_bits family.Insert a b c pos = inserted a b pos
 
--- IEEE 1800-2017, 11.4.13, for single items: the or reduction of the wildcard equalities of the value with each item
-abbrev pub inside : Vector → List Vector → LogicBit
-inside v items = reduce_or (map (compared comparison.WildcardEqual v) items)
+-- the last argument is the position of insert, c as a number
+abbrev pub op_bits : Op → Vector → Vector → Vector → ℕ → List LogicBit
+op_bits op a b c pos = family_bits (family_of op) a b c pos
 
--- a vector of no bits: it is read where there is no operand
-abbrev pub empty_vector : Vector
-empty_vector = record { header = plain 0; bits = [] }
-
--- operand i of a list, from 0
-abbrev pub operand : List Vector → ℕ → Vector
-operand vs i = get_or vs i empty_vector
-
-abbrev pub work_bits : Work → List Vector → ℕ → List LogicBit
-work_bits (work.Cells k) vs pos = family_bits k (operand vs 0) (operand vs 1) (operand vs 2) pos
-work_bits work.Inside vs pos = inside (operand vs 0) (drop 1 vs) ∷ []
-
--- by the operands in order; the last argument is the position of insert, c as a number
-abbrev pub op_bits : Op → List Vector → ℕ → List LogicBit
-op_bits op vs pos = work_bits (work_of op) vs pos
+abbrev pub op_vector : Op → Vector → Vector → Vector → ℕ → Vector
+op_vector op a b c pos = record { header = op_header op a.header b.header c.header; bits = op_bits op a b c pos }

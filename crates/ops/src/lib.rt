@@ -1,7 +1,6 @@
-// The ops of a step list: how each is worked out, how many cells it names, which arms and items it refuses, the header of its result, and its
-// code.
+// The ops of a step list: how each is worked out, how many cells it names, which arms it refuses, the header of its result, and its code.
 ghost use Rattle.std.specs.Prelude.{◌≡◌};
-ghost use Rattle.ops.specs.Ops.{work_of, family_operands, operands, uses, family_refused, arms_refused, items_refused, family_header, op_header};
+ghost use Rattle.ops.specs.Ops.{family_of, operands, uses, arms_refused, op_header};
 ghost use Rattle.ops.specs.Names.{op_of};
 
 use compare_words::Comparison;
@@ -30,7 +29,6 @@ pub enum Op {
     LogicOr,
     Select,
     Insert,
-    Inside,
 }
 
 // The op that has a code, or none.
@@ -40,8 +38,7 @@ pub enum OpAnswer {
     NoOp,
 }
 
-// One step of a list: its op, and three numbers, of which the first are the cells that the op names; insert takes c as its position, and the items
-// of inside are the cells from b up to c.
+// One step of a list: its op, and three numbers, of which the first are the cells that the op names; insert takes c as its position.
 #[derive(Drop)]
 pub struct Step {
     pub op: Op,
@@ -61,7 +58,7 @@ pub enum Question {
     LogicOr,
 }
 
-// The ops on the cells that a, b and c name, by how they are worked out.
+// The ops by how they are worked out.
 #[derive(Drop)]
 pub enum Family {
     Join(Bitwise),
@@ -71,46 +68,36 @@ pub enum Family {
     Insert,
 }
 
-// How an op is worked out: on the cells that a, b and c name, by a family, or on a value and the items of a set.
-#[derive(Drop)]
-pub enum Work {
-    Cells(Family),
-    Inside,
-}
-
 // How an op is worked out: the one place that tells all ops apart.
-pub fn work_of(op: Op) -> Work
-    ensures { result ≡ work_of op }
+pub fn family_of(op: Op) -> Family
+    ensures { result ≡ family_of op }
 {
     match op {
-        Op::And => Work::Cells(Family::Join(Bitwise::And)),
-        Op::Or => Work::Cells(Family::Join(Bitwise::Or)),
-        Op::Xor => Work::Cells(Family::Join(Bitwise::Xor)),
-        Op::Not => Work::Cells(Family::Not),
-        Op::Merge => Work::Cells(Family::Join(Bitwise::Merge)),
-        Op::ReduceAnd => Work::Cells(Family::Answer(Question::ReduceAnd)),
-        Op::ReduceOr => Work::Cells(Family::Answer(Question::ReduceOr)),
-        Op::ReduceXor => Work::Cells(Family::Answer(Question::ReduceXor)),
-        Op::Equal => Work::Cells(Family::Answer(Question::Compare(Comparison::Equal))),
-        Op::CaseEqual => Work::Cells(Family::Answer(Question::Compare(Comparison::CaseEqual))),
-        Op::CasezEqual => Work::Cells(Family::Answer(Question::Compare(Comparison::CasezEqual))),
-        Op::CasexEqual => Work::Cells(Family::Answer(Question::Compare(Comparison::CasexEqual))),
-        Op::WildcardEqual => Work::Cells(Family::Answer(Question::Compare(
-            Comparison::WildcardEqual,
-        ))),
-        Op::LogicAnd => Work::Cells(Family::Answer(Question::LogicAnd)),
-        Op::LogicOr => Work::Cells(Family::Answer(Question::LogicOr)),
-        Op::Select => Work::Cells(Family::Select),
-        Op::Insert => Work::Cells(Family::Insert),
-        Op::Inside => Work::Inside,
+        Op::And => Family::Join(Bitwise::And),
+        Op::Or => Family::Join(Bitwise::Or),
+        Op::Xor => Family::Join(Bitwise::Xor),
+        Op::Not => Family::Not,
+        Op::Merge => Family::Join(Bitwise::Merge),
+        Op::ReduceAnd => Family::Answer(Question::ReduceAnd),
+        Op::ReduceOr => Family::Answer(Question::ReduceOr),
+        Op::ReduceXor => Family::Answer(Question::ReduceXor),
+        Op::Equal => Family::Answer(Question::Compare(Comparison::Equal)),
+        Op::CaseEqual => Family::Answer(Question::Compare(Comparison::CaseEqual)),
+        Op::CasezEqual => Family::Answer(Question::Compare(Comparison::CasezEqual)),
+        Op::CasexEqual => Family::Answer(Question::Compare(Comparison::CasexEqual)),
+        Op::WildcardEqual => Family::Answer(Question::Compare(Comparison::WildcardEqual)),
+        Op::LogicAnd => Family::Answer(Question::LogicAnd),
+        Op::LogicOr => Family::Answer(Question::LogicOr),
+        Op::Select => Family::Select,
+        Op::Insert => Family::Insert,
     }
 }
 
-// How many cells an op of a family names; the position of insert is none.
-fn family_operands(k: Family) -> usize
-    ensures { result ≡ family_operands k }
+// How many cells an op names; the position of insert is none.
+pub fn operand_count(op: Op) -> usize
+    ensures { result ≡ operands op }
 {
-    match k {
+    match family_of(op) {
         Family::Join(_) => 2,
         Family::Not => 1,
         Family::Answer(q) => match q {
@@ -122,66 +109,31 @@ fn family_operands(k: Family) -> usize
     }
 }
 
-// How many cells an op names; those of inside are its value, its first item and its last.
-pub fn operand_count(op: Op) -> usize
-    ensures { result ≡ operands op }
-{
-    match work_of(op) {
-        Work::Cells(k) => family_operands(k),
-        Work::Inside => 3,
-    }
-}
-
 // How many of a step's numbers a, b and c an op uses, the first ones: the cells that it names, and the position of insert.
 pub fn number_count(op: Op) -> usize
     ensures { result ≡ uses op }
 {
-    match work_of(op) {
-        Work::Cells(k) => match k {
-            Family::Join(_) | Family::Not | Family::Answer(_) | Family::Select => family_operands(
-                k,
-            ),
-            Family::Insert => 3,
-        },
-        Work::Inside => 3,
+    match family_of(op) {
+        Family::Join(_) | Family::Not | Family::Answer(_) | Family::Select => operand_count(op),
+        Family::Insert => 3,
     }
 }
 
-// Whether an op of a family refuses its arms. Only select has any.
-fn family_refused(k: Family, b: Header, c: Header) -> bool
-    ensures { result ≡ family_refused k b c }
+// Whether an op refuses its arms: their widths differ, or one is a fill. Only select has any.
+pub fn arms_refused(op: Op, b: Header, c: Header) -> bool
+    ensures { result ≡ arms_refused op b c }
 {
-    match k {
+    match family_of(op) {
         Family::Join(_) | Family::Not | Family::Answer(_) | Family::Insert => false,
         Family::Select => (b.width != c.width) | b.is_fill | c.is_fill,
     }
 }
 
-// Whether an op refuses its arms: their widths differ, or one is a fill.
-pub fn arms_refused(op: Op, b: Header, c: Header) -> bool
-    ensures { result ≡ arms_refused op b c }
+// The header of an op's result.
+pub fn result_header(op: Op, a: Header, b: Header, c: Header) -> Header
+    ensures { result ≡ op_header op a b c }
 {
-    match work_of(op) {
-        Work::Cells(k) => family_refused(k, b, c),
-        Work::Inside => false,
-    }
-}
-
-// Whether an op refuses its items, the cells from b up to c: there are more than 64. Only inside has any.
-pub fn items_refused(op: Op, b: u32, c: u32) -> bool
-    ensures { result ≡ items_refused op b c }
-{
-    match work_of(op) {
-        Work::Cells(_) => false,
-        Work::Inside => { if c < b { false } else { 64 <= c - b } }
-    }
-}
-
-// The header of the result of an op of a family.
-fn family_header(k: Family, a: Header, b: Header, c: Header) -> Header
-    ensures { result ≡ family_header k a b c }
-{
-    match k {
+    match family_of(op) {
         Family::Join(j) => bitwise_words::result_header(j, a, b),
         Family::Not => Header {
             width: a.width,
@@ -195,16 +147,6 @@ fn family_header(k: Family, a: Header, b: Header, c: Header) -> Header
             is_fill: false,
         },
         Family::Insert => a,
-    }
-}
-
-// The header of an op's result.
-pub fn result_header(op: Op, a: Header, b: Header, c: Header) -> Header
-    ensures { result ≡ op_header op a b c }
-{
-    match work_of(op) {
-        Work::Cells(k) => family_header(k, a, b, c),
-        Work::Inside => value::plain_header(1),
     }
 }
 
@@ -230,9 +172,8 @@ pub fn op_of(code: u8) -> OpAnswer
         OpAnswer::Op(Op::LogicOr),
         OpAnswer::Op(Op::Select),
         OpAnswer::Op(Op::Insert),
-        OpAnswer::Op(Op::Inside),
     ];
-    if code < 18 {
+    if code < 17 {
         table[code as usize]
     } else {
         OpAnswer::NoOp

@@ -7,7 +7,7 @@ use crate::Op;
 
 // The op at a place of the list of names, from 0.
 pub fn op_at(n: usize) -> Op
-    requires { n < 18 }
+    requires { n < 17 }
     ensures { result ≡ get_or all_ops n And }
 {
     let ops = [
@@ -28,7 +28,6 @@ pub fn op_at(n: usize) -> Op
         Op::LogicOr,
         Op::Select,
         Op::Insert,
-        Op::Inside,
     ];
     ops[n]
 }

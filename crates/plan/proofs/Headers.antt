@@ -1,46 +1,33 @@
 -- What the machine reads of a step's operands are the headers of the cells that it names.
 --     arms-named, header-named     an operand that the op does not use does not matter
 --     header_read                  the header at a place below n, among the first n
-use mathlib.Core.Path.{◌≡◌, sym, ap, ◌∙◌}
+use mathlib.Core.Path.{◌≡◌, ap}
 use mathlib.Core.Bool.{Bool}
-use mathlib.Core.List.{List, [], map}
+use mathlib.Core.List.{List, []}
 use Prim.Native.Nat.{ℕ, ◌<◌}
 use Rattle.words.specs.Vector.{tabulate}
 use Rattle.words.proofs.Planes.{get_d_tabulate}
 use Rattle.value.specs.declared.Header.{Header}
 use Rattle.value.specs.Checks.{plain, Vector}
 use Rattle.ops.specs.declared.Step.{Step}
-use Rattle.ops.specs.Ops.{work_of, arms_refused, op_header, operand}
-use Rattle.ops.proofs.Operands as op
-use Rattle.ops.proofs.Operands.{arms-read}
+use Rattle.ops.specs.Ops.{family_of, arms_refused, op_header}
 use Rattle.machine.specs.Machine.{header_at, step_header}
 use Rattle.cells.specs.Places.{header_of}
 use Rattle.plan.specs.Planned.{named}
-use Rattle.plan.proofs.Named.{read_named}
+use Rattle.plan.proofs.Named.{unread}
 
 module _ (hs : List Header) where
   -- a header as a vector of no bits
   abbrev bare : ℕ → Vector
   bare i = record { header = header_at hs i; bits = [] }
 
-  abbrev read : List ℕ → ℕ → Header
-  read ns i = (operand (map bare ns) i).header
-
   pub arms-named : (step : Step) → arms_refused step.op (header_at hs step.b) (header_at hs step.c)
       ≡ arms_refused step.op (header_at hs (named step).b) (header_at hs (named step).c)
-  arms-named step =
-      let t = named step in
-      arms-read bare step.a step.b step.c (work_of step.op)
-      ∙ ap (λ (ns : List ℕ). arms_refused step.op (read ns 1) (read ns 2)) (sym (read_named step))
-      ∙ sym (arms-read bare t.a t.b t.c (work_of step.op))
+  arms-named step = (unread bare step.a step.b step.c 0 (family_of step.op)).0
 
   pub header-named : (step : Step) → step_header hs step
       ≡ op_header step.op (header_at hs (named step).a) (header_at hs (named step).b) (header_at hs (named step).c)
-  header-named step =
-      let t = named step in
-      op.header_read bare step.a step.b step.c (work_of step.op)
-      ∙ ap (λ (ns : List ℕ). op_header step.op (read ns 0) (read ns 1) (read ns 2)) (sym (read_named step))
-      ∙ sym (op.header_read bare t.a t.b t.c (work_of step.op))
+  header-named step = ap (λ (v : Vector). v.header) (unread bare step.a step.b step.c 0 (family_of step.op)).1
 
 pub header_read : (w : List ℕ) (s f : List Bool) (n i : ℕ) → i < n → header_at (tabulate n (header_of w s f)) i ≡ header_of w s f i
 header_read w s f n i h = get_d_tabulate n (header_of w s f) i (plain 0) h

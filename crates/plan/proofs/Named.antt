@@ -1,41 +1,47 @@
 -- The operands that a step names.
---     read_named      the cells that it reads are among those
+--     unread          what an op refuses and gives does not depend on the operands that it does not use
 --     names-within    each cell that an accepted step names is filled
 --     names-tested    a step names filled cells alone where none of three tests finds another
 use mathlib.Core.Path.{◌≡◌, refl, ap, ◌∙◌}
 use mathlib.Core.Bool.{Bool, true, false, not, ◌&&◌, ◌||◌, cond}
-use mathlib.Core.List.{[], ◌∷◌}
-use Prim.Native.Nat.{ℕ, zero, suc, ◌≤◌, ◌<◌}
-use native.Mathlib.Omega.{arith}
+use Prim.Native.Nat.{ℕ, ◌<◌}
 use borrow.Author.Tests.{ltb-true, leb-true, leb-false, lt-ltb, le-ltb}
 use lib.Dec.{leb, ltb}
-use lib.ListN.{take}
 use Rattle.bit.proofs.Tests.{and-true}
+use Rattle.value.specs.Checks.{Vector}
 use Rattle.ops.specs.declared.Step.{Step}
-use Rattle.ops.specs.declared.Work.{Work}
-use Rattle.ops.specs.declared.Work.TheVariants as work
-use Rattle.ops.specs.Ops.{work_of, family_operands, work_operands, operands, work_reads, cells_read}
+use Rattle.ops.specs.declared.Question.TheVariants as question
+use Rattle.ops.specs.declared.Family.{Family}
+use Rattle.ops.specs.declared.Family.TheVariants as family
+use Rattle.ops.specs.Ops.{family_operands, operands, family_refused, family_header, family_bits}
 use Rattle.machine.specs.Machine.{names}
 use Rattle.plan.specs.Planned.{named}
 
--- ---- what is read
+-- ---- what is not read
 
--- of m numbers, the first stands for those that are not among them
-first_of : (m a b c : ℕ) → take m (a ∷ cond (ltb m 2) a b ∷ cond (ltb m 3) a c ∷ []) ≡ take m (a ∷ b ∷ c ∷ [])
-first_of zero a b c = refl
-first_of (suc zero) a b c = refl
-first_of (suc (suc zero)) a b c = refl
-first_of (suc (suc (suc m))) a b c =
-    let two : 2 ≤ suc (suc (suc m)) = omega arith in
-    let three : 3 ≤ suc (suc (suc m)) = omega arith in
-    simp (le-ltb _ _ two, le-ltb _ _ three)
+-- the numbers a, b, c name vectors
+module _ (g : ℕ → Vector) (a b c pos : ℕ) where
+  abbrev vector_by : Family → ℕ → ℕ → Vector
+  vector_by k b c = record { header = family_header k (g a).header (g b).header (g c).header; bits = family_bits k (g a) (g b) (g c) pos }
 
-work-named : (w : Work) (a b c : ℕ) → work_reads w a (cond (ltb (work_operands w) 2) a b) (cond (ltb (work_operands w) 3) a c) ≡ work_reads w a b c
-work-named (work.Cells k) a b c = first_of (family_operands k) a b c
-work-named work.Inside a b c = refl
+  abbrev second : Family → ℕ
+  second k = cond (ltb (family_operands k) 2) a b
 
-pub read_named : (s : Step) → cells_read (named s) ≡ cells_read s
-read_named s = work-named (work_of s.op) s.a s.b s.c
+  abbrev third : Family → ℕ
+  third k = cond (ltb (family_operands k) 3) a c
+
+  pub unread : (k : Family) → (family_refused k (g b).header (g c).header ≡ family_refused k (g (second k)).header (g (third k)).header)
+      × (vector_by k b c ≡ vector_by k (second k) (third k))
+  unread (family.Join j) = (refl, refl)
+  unread family.Not = (refl, refl)
+  unread (family.Answer question.ReduceAnd) = (refl, refl)
+  unread (family.Answer question.ReduceOr) = (refl, refl)
+  unread (family.Answer question.ReduceXor) = (refl, refl)
+  unread (family.Answer (question.Compare q)) = (refl, refl)
+  unread (family.Answer question.LogicAnd) = (refl, refl)
+  unread (family.Answer question.LogicOr) = (refl, refl)
+  unread family.Select = (refl, refl)
+  unread family.Insert = (refl, refl)
 
 -- ---- the numbers
 

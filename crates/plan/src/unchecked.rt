@@ -11,7 +11,7 @@ use crate::{PlanAnswer, PlannedStep};
 use cells::PlaceAnswer;
 use cells::unchecked::header_at;
 use machine::Room;
-use ops::{Step, arms_refused, items_refused, operand_count, result_header};
+use ops::{Step, arms_refused, operand_count, result_header};
 use refusal::{Refusal, Verdict};
 use words::word_count;
 
@@ -67,7 +67,7 @@ pub fn plan_input(
     }
 }
 
-// The planned step, or its refusal: 12, 11, 7, 16, then 13.
+// The planned step, or its refusal: 12, 11, 7, then 13.
 pub fn plan_step<'a>(
     step: Step,
     count: usize,
@@ -98,9 +98,6 @@ pub fn plan_step<'a>(
     let op = step.op;
     if arms_refused(op, y, z) {
         return PlanAnswer::Refused(Refusal::BadArms);
-    }
-    if items_refused(op, step.b, step.c) {
-        return PlanAnswer::Refused(Refusal::TooManyItems);
     }
     let h = result_header(op, x, y, z);
     let w = word_count(h.width);

@@ -29,8 +29,6 @@ pub enum Refusal {
     BadStore,
     // 15: the text is no sized literal, or the vector to write as one is a fill or not 1 to 4,096 bits wide.
     BadLiteral,
-    // 16: a step in has more than 64 items.
-    TooManyItems,
 }
 
 // Whether a check, or a call that answers nothing else, refuses.
@@ -57,6 +55,5 @@ pub fn number(r: Refusal) -> u8
         Refusal::NoRoom => 13,
         Refusal::BadStore => 14,
         Refusal::BadLiteral => 15,
-        Refusal::TooManyItems => 16,
     }
 }

@@ -17,7 +17,7 @@ use Rattle.text.proofs.Exact.{next-found, after-key, rest_of}
 use Rattle.text.proofs.Places.{got, not-got}
 use Rattle.text.proofs.Names.{distinct, name_text, one_of-exact}
 use Rattle.ops.specs.declared.Op.{Op}
-use Rattle.ops.specs.declared.Op.TheVariants.{And, Or, Xor, Not, Merge, ReduceAnd, ReduceOr, ReduceXor, Equal, CaseEqual, CasezEqual, CasexEqual, WildcardEqual, LogicAnd, LogicOr, Select, Insert, Inside}
+use Rattle.ops.specs.declared.Op.TheVariants.{And, Or, Xor, Not, Merge, ReduceAnd, ReduceOr, ReduceXor, Equal, CaseEqual, CasezEqual, CasexEqual, WildcardEqual, LogicAnd, LogicOr, Select, Insert}
 use Rattle.steplist.specs.OpLine.{op_text, name_line, choice_line, op_key, op_line}
 use Rattle.ops.specs.Names.{all_ops}
 use Rattle.steplist.specs.Answers.{op_in}
@@ -62,7 +62,7 @@ choice-exact {A} k name l d e listed = record {
 
 -- ---- the line op=
 
-op-listed : (o : Op) → (n : ℕ) × (n < 18) × (get_or all_ops n And ≡ o)
+op-listed : (o : Op) → (n : ℕ) × (n < 17) × (get_or all_ops n And ≡ o)
 op-listed And = (0, omega arith, refl)
 op-listed Or = (1, omega arith, refl)
 op-listed Xor = (2, omega arith, refl)
@@ -80,7 +80,6 @@ op-listed LogicAnd = (13, omega arith, refl)
 op-listed LogicOr = (14, omega arith, refl)
 op-listed Select = (15, omega arith, refl)
 op-listed Insert = (16, omega arith, refl)
-op-listed Inside = (17, omega arith, refl)
 
 pub op-exact : Exact op_line (λ o. op_key ++ (op_text o ++ line_end)) (λ o. Unit {0})
 unfolding op_line

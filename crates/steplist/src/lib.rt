@@ -134,7 +134,7 @@ fn op_line(s: &[u8], at: usize) -> OpRead
         s,
         at,
         b"op=and\nop=or\nop=xor\nop=not\nop=mrg\nop=rand\nop=ror\nop=rxor\n\
-        op=eq\nop=ceq\nop=cz\nop=cx\nop=weq\nop=land\nop=lor\nop=sel\nop=ins\nop=in\n",
+        op=eq\nop=ceq\nop=cz\nop=cx\nop=weq\nop=land\nop=lor\nop=sel\nop=ins\n",
     );
     OpRead {
         op: op_at(line.number as usize),

@@ -1,8 +1,7 @@
 //! What the operators of two vectors have to give since document 02, point 2: for operands that it touches the answer of IEEE 1800-2017, worked
-//! out here from its definitions, bit by bit; for all others the reference's; and what one value against a set of others has to give (point 6).
-//! Nothing here calls the library.
+//! out here from its definitions, bit by bit; for all others the reference's. Nothing here calls the library.
 use super::value::Value;
-use super::{truth_bit, Vector};
+use super::Vector;
 use crate::planes::word_count;
 use crate::steps::Op;
 use crate::Header;
@@ -62,18 +61,6 @@ pub fn by_standard(op: Op, a: &Vector, b: &Vector) -> Vector {
         Op::WildcardEqual => vector(false, vec![wildcard_equal(places)]),
         op => panic!("{op} is not defined here"),
     }
-}
-
-/// 11.4.13 for single items: 1 if some item is equal to the value by a wildcard equality, which has the item on its right, else x if some such
-/// equality is x, else 0.
-pub fn inside<'a>(value: &Vector, items: impl Iterator<Item = &'a Vector>) -> Vector {
-    let answers: Vec<u8> = items.map(|item| expected(Op::WildcardEqual, value, item).code(0)).collect();
-    let is = match (answers.contains(&1), answers.contains(&X)) {
-        (true, _) => Some(true),
-        (false, true) => None,
-        (false, false) => Some(false),
-    };
-    truth_bit(is).into()
 }
 
 /// 11.8.1: an expression is signed if all its operands are. 5.7.1: a fill is unsigned.

@@ -156,10 +156,6 @@ fn of_a_step() {
     refuses_step(&list(AND, ROR), [4, 4, 1, 0], "", Refusal::NoRoom, 1, 2);
     let no_inputs = "inputs=0\nsteps=1\nop=not\na=0\nb=0\nc=0\n";
     refuses_step(no_inputs, [1, 2, 1, 1], "", Refusal::BadStore, 1, 0);
-    // 65 items, the last of which takes the last word: before 13
-    let items = "width=1\nkind=u\nbits=0\n".repeat(64);
-    let set = format!("inputs=64\nsteps=2\n{items}op=not\na=0\nb=0\nc=0\nop=in\na=0\nb=0\nc=64\n");
-    refuses_step(&set, [65, 65, 1, 1], "cell=64\nbits=1\n", Refusal::TooManyItems, 2, 65);
 }
 
 /// Arenas that differ in length are of no account where there is nothing to do.

@@ -39,15 +39,6 @@ pub struct Left {
     pub memory: Memory,
 }
 
-impl Left {
-    /// The code of a cell's bit 0.
-    pub fn lowest_bit(&self, number: usize) -> u8 {
-        let cell = self.store.cell(number).unwrap();
-        let [value, unknown] = self.memory.arenas.each_ref().map(|arena| (arena[cell.start] & 1) as u8);
-        value | unknown << 1
-    }
-}
-
 /// The ending that the last lines of an output tell.
 fn told(output: &str) -> Option<Ending> {
     let mut lines = output.lines().rev();

@@ -1,7 +1,7 @@
 //! The calls of the store, one after the other, on both sides: wider vectors and more kinds than a list can have.
 use crate::alike::{lend, store_of};
 use crate::draws::Draws;
-use crate::shares::{SetShares, StepShares};
+use crate::shares::StepShares;
 use vowherunga::reference::draw::Rng;
 use vowherunga::reference::steps::{operands, Machine, Shape};
 use vowherunga::reference::Vector;
@@ -54,10 +54,10 @@ impl Pair {
 /// Widths of a store's inputs: few bits, edges, more than a list can have.
 const WIDTHS: [u32; 16] = [0, 1, 2, 3, 4, 5, 63, 64, 65, 66, 127, 128, 129, 4096, 4097, 10_000];
 
-/// The step with any numbers where its op uses none: a call ignores them.
-fn with_unused(step: Step, any: [u64; 2]) -> Step {
-    let Step { op, a, b, c } = step;
-    let any = any.map(|n| n as u32);
+/// A drawn step whose unused numbers are any: a call ignores them.
+fn drawn_step(rng: &mut Rng, shape: &Shape, cells: &[Vector]) -> Step {
+    let Step { op, a, b, c } = rng.step(shape, cells);
+    let any = [rng.next() as u32, rng.next() as u32];
     match operands(op) {
         1 => Step {
             op,
@@ -73,7 +73,7 @@ fn with_unused(step: Step, any: [u64; 2]) -> Step {
 #[test]
 fn drawn_calls() {
     let mut draws = Draws::new(3_000, 56);
-    let mut refused = [0; 17];
+    let mut refused = [0; 15];
     let mut shares = StepShares::default();
     for _ in 0..draws.count {
         let rng = &mut draws.rng;
@@ -94,7 +94,7 @@ fn drawn_calls() {
                 let v = rng.operand(width);
                 pair.input(&v)
             } else {
-                let step = with_unused(rng.step(&shape, &pair.machine.cells), [rng.next(), rng.next()]);
+                let step = drawn_step(rng, &shape, &pair.machine.cells);
                 let (pair, number) = pair.step(step);
                 if number == 0 {
                     shares.count(step, |n| pair.machine.cells[n as usize].header);
@@ -107,50 +107,6 @@ fn drawn_calls() {
     shares.expect();
     assert!(
         [0, 7, 11, 13].iter().all(|n| refused[*n] > draws.share(300)),
-        "{refused:?} by number"
-    );
-}
-
-/// A store that has a value and items, so many cells in all, and room for some words more.
-fn many_cells(rng: &mut Rng, cells: usize, room: usize) -> Pair {
-    let inputs = rng.set_inputs(cells);
-    let words = |v: &Vector| v.value.len();
-    let all = inputs.iter().map(words).sum::<usize>() + room;
-    let largest = inputs.iter().map(words).max().unwrap();
-    let pair = Pair {
-        store: Store::new(),
-        machine: Machine::new(rng.memory([all; 2], [largest; 2])),
-    };
-    inputs.iter().fold(pair, |pair, v| pair.input(v).0)
-}
-
-/// In steps, and others, on about 64 cells and on more.
-#[test]
-fn drawn_calls_on_many_cells() {
-    let mut draws = Draws::new(600, 61);
-    let mut refused = [0; 17];
-    let mut sets = SetShares::default();
-    for _ in 0..draws.count {
-        let rng = &mut draws.rng;
-        let (cells, room) = (rng.choose(&[62, 64, 65, 70, 310]), rng.choose(&[0, 8, 60]));
-        let shape = Shape {
-            has_faults: true,
-            ..Shape::short(rng).with_sets()
-        };
-        let mut pair = many_cells(rng, cells, room);
-        for _ in 0..24 {
-            let step = with_unused(rng.set_step(&shape, &pair.machine.cells), [rng.next(), rng.next()]);
-            let number;
-            (pair, number) = pair.step(step);
-            if number == 0 {
-                sets.count(step, pair.machine.cells.last().unwrap().code(0));
-            }
-            refused[usize::from(number)] += 1;
-        }
-    }
-    sets.expect(&draws, [[200, 0, 0], [300, 30, 10], [400, 150, 50], [50, 120, 30]]);
-    assert!(
-        [0, 7, 11, 12, 13, 16].iter().all(|n| refused[*n] > draws.share(100)),
         "{refused:?} by number"
     );
 }
@@ -172,7 +128,6 @@ fn widest_calls(seed: u64, is_signed: bool) {
         let (a, b, c) = match op {
             Op::Select => (1, 0, 2),
             Op::Insert => (0, 1, MAX_WIDTH - 63),
-            Op::Inside => (0, 1, 2),
             _ => (0, 1, 0),
         };
         let number;

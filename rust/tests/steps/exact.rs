@@ -109,8 +109,8 @@ fn agreed(step: Step, operands: [Small; 3]) -> [u64; 2] {
 fn known_exactly_where_completions_agree() {
     let mut draws = Draws::new(6_000, 55);
     let mut runs = Runs::new();
-    let mut steps = [0; Op::ALL.len()];
-    let (mut with_fills, mut of_two_widths, mut extended) = (0, 0, [0; Op::ALL.len()]);
+    let mut steps = [0; 17];
+    let (mut with_fills, mut of_two_widths, mut extended) = (0, 0, [0; 17]);
     for _ in 0..draws.count {
         let rng = &mut draws.rng;
         let shape = Shape::short(rng).keeping_known();

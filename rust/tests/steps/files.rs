@@ -33,11 +33,10 @@ fn files_of_cones() {
         assert_eq!(output, "refused=6\nstep=0\n", "{}", path.display());
     }
     runs.expect(&[
-        ("done", 20),
+        ("done", 10),
         ("refused=4", 2),
         ("refused=7", 3),
-        ("refused=11", 12),
-        ("refused=16", 2),
-        ("refused=6", 80),
+        ("refused=11", 4),
+        ("refused=6", 70),
     ]);
 }

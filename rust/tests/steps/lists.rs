@@ -1,7 +1,7 @@
 //! Drawn lists run on both sides.
 use crate::alike::Runs;
 use crate::draws::Draws;
-use crate::shares::{SetShares, StepShares};
+use crate::shares::StepShares;
 use vowherunga::reference::draw::Rng;
 use vowherunga::reference::steps::{Memory, Shape};
 use vowherunga::steps::Op;
@@ -10,9 +10,8 @@ use vowherunga::steps::Op;
 fn drawn_lists() {
     let mut draws = Draws::new(24_000, 50);
     let mut runs = Runs::new();
-    let mut ops = [0; Op::ALL.len()];
+    let mut ops = [0; 17];
     let mut shares = StepShares::default();
-    let mut sets = SetShares::default();
     for _ in 0..draws.count {
         let rng = &mut draws.rng;
         let shape = Shape::any(rng);
@@ -20,14 +19,12 @@ fn drawn_lists() {
         let memory = rng.memory_for(&drawn);
         let left = runs.compare(drawn.list.text().as_bytes(), &memory);
         let done = left.store.count().saturating_sub(drawn.list.inputs.len());
-        for (k, step) in drawn.list.steps[..done].iter().enumerate() {
+        for step in &drawn.list.steps[..done] {
             ops[usize::from(step.op.code())] += 1;
             shares.count(*step, |n| left.store.cell(n as usize).unwrap().header);
-            sets.count(*step, left.lowest_bit(drawn.list.inputs.len() + k));
         }
     }
     shares.expect();
-    sets.expect(&draws, [[700, 0, 0], [600, 1_000, 300], [200, 2_500, 200], [0, 500, 0]]);
     runs.expect(&draws.endings([
         ("done", 10_000),
         ("refused=4", 100),
@@ -36,32 +33,10 @@ fn drawn_lists() {
         ("refused=11", 500),
         ("refused=13", 1_000),
         ("refused=14", 300),
-        ("refused=16", 40),
     ]));
     for (op, n) in Op::ALL.into_iter().zip(ops) {
         assert!(n > draws.share(5_000), "{n} steps {op}");
     }
-}
-
-/// Lists of a value and items that are much like it, up to 64 of them and more.
-#[test]
-fn drawn_sets() {
-    let mut draws = Draws::new(3_000, 60);
-    let mut runs = Runs::new();
-    let mut sets = SetShares::default();
-    for _ in 0..draws.count {
-        let rng = &mut draws.rng;
-        let drawn = rng.set_list();
-        let memory = rng.memory_for(&drawn);
-        let left = runs.compare(drawn.list.text().as_bytes(), &memory);
-        let inputs = drawn.list.inputs.len();
-        let done = left.store.count().saturating_sub(inputs);
-        for (k, step) in drawn.list.steps[..done].iter().enumerate() {
-            sets.count(*step, left.lowest_bit(inputs + k));
-        }
-    }
-    sets.expect(&draws, [[1_000, 0, 0], [2_000, 300, 80], [3_000, 1_000, 300], [100, 400, 80]]);
-    runs.expect(&draws.endings([("done", 1_000), ("refused=11", 50), ("refused=13", 100), ("refused=16", 100)]));
 }
 
 /// Lists that fill all 320 cells, in memory that is just enough, and a word short.

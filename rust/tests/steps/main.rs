@@ -6,8 +6,7 @@
 //!     export STEPS_COUNT=1000000 STEPS_SEED=7 CARGO_TARGET_DIR=$PWD/target/cargo
 //!     cargo test --offline --locked --manifest-path rust/Cargo.toml --features reference --test steps -- --nocapture drawn_lists damaged_texts
 //!
-//! It holds for `drawn_lists`, `drawn_sets`, `damaged_texts`, `drawn_calls`, `drawn_calls_on_many_cells`, `known_bits_are_kept` and
-//! `known_exactly_where_completions_agree`.
+//! It holds for `drawn_lists`, `damaged_texts`, `drawn_calls`, `known_bits_are_kept` and `known_exactly_where_completions_agree`.
 mod alike;
 mod calls;
 mod damage;

@@ -1,7 +1,7 @@
 //! Runs on inputs of which unknown bits are made 0 or 1: the same ending, and every known bit kept.
 use crate::alike::Runs;
 use crate::draws::Draws;
-use vowherunga::reference::steps::{Memory, Shape};
+use vowherunga::reference::steps::Shape;
 
 /// Sees that an output is another with unknown bits made any. How many bits of each were known.
 fn keeps_known(before: &str, after: &str) -> [usize; 2] {
@@ -44,30 +44,4 @@ fn known_bits_are_kept() {
         "{known:?} known bits"
     );
     runs.expect(&draws.endings([("done", 10_000), ("refused=7", 100), ("refused=11", 100), ("refused=13", 100)]));
-}
-
-/// The answer of an in step with a value and items of one bit.
-fn inside(runs: &mut Runs, value: char, items: &str) -> String {
-    let input = |bit: char| format!("width=1\nkind=u\nbits={bit}\n");
-    let inputs: String = [value].into_iter().chain(items.chars()).map(input).collect();
-    let n = items.len();
-    let text = format!("inputs={}\nsteps=1\n{inputs}op=in\na=0\nb=1\nc={n}\n", n + 1);
-    let left = runs.compare(text.as_bytes(), &Memory::zeros(n + 2, 1));
-    left.output.lines().nth(1).unwrap().to_string()
-}
-
-/// In steps are left out: a known answer is lost where an item's x, which matches any bit, is made known; and an answer is x although it is 1
-/// whatever the value's x is made.
-#[test]
-fn in_steps_are_no_such_steps() {
-    let mut runs = Runs::new();
-    for (value, items, want) in [
-        ('1', "x", '1'),
-        ('1', "0", '0'),
-        ('x', "01", 'x'),
-        ('0', "01", '1'),
-        ('1', "01", '1'),
-    ] {
-        assert_eq!(inside(&mut runs, value, items), format!("bits={want}"), "{value} in {items}");
-    }
 }

@@ -3,9 +3,7 @@ use mathlib.Core.Path.{◌≡◌, refl, sym, ap, ◌∙◌}
 use mathlib.Core.List.{[], ◌∷◌}
 use Rattle.ops.specs.declared.Family.{Family}
 use Rattle.ops.specs.declared.Family.TheVariants as family
-use Rattle.ops.specs.declared.Work.{Work}
-use Rattle.ops.specs.declared.Work.TheVariants as work
-use Rattle.ops.specs.Ops.{family_operands, family_uses, work_uses}
+use Rattle.ops.specs.Ops.{family_operands, family_uses}
 use denote.Enum.Declared.{tag_of}
 use types.Run.{OneOf, miss}
 use Rattle.ops.specs.contracts.Family.{the_type}
@@ -21,22 +19,22 @@ cells-only (family.Answer q) o = refl
 cells-only family.Select o = refl
 cells-only family.Insert o = absurd (miss (0 ∷ 1 ∷ 2 ∷ 3 ∷ []) 4 tt o)
 
+family-of-requires : tie.Need-family-of-requires
+family-of-requires c κs = search rules
+
+operand-count-requires : tie.Need-operand-count-requires
+operand-count-requires c κs = search rules
+
+enum_told : tie.Need-enum-told
+enum_told c = search rules
+
 returns : tie.Need-returns
 returns c =
-    let k = c.before.before.before in
-    c.family-operands.ensures
-    ∙ cells-only k.k.given.0.0 c.before.match2.keys1
-    ∙ ap work_uses (sym k.k.given.1 ∙ k.before.before.work-of.ensures)
+    let f = c.before.before.family-of in
+    c.operand-count.ensures ∙ ap family_operands (sym f.ensures) ∙ cells-only f.result c.before.match.keys1 ∙ ap family_uses f.ensures
 
 returns-2 : tie.Need-returns-2
-returns-2 c =
-    let k = c.before.before.before in
-    ap family_uses (sym c.enum_told.given.1) ∙ ap work_uses (sym k.k.given.1 ∙ k.before.before.work-of.ensures)
-
-returns-3 : tie.Need-returns-3
-returns-3 c = ap work_uses (sym c.enum-told2.given.1 ∙ c.before.before.work-of.ensures)
+returns-2 c = search rules
 
 pub number-count-spec : {M : Type 1} → statement M
-number-count-spec =
-    tie.close
-    (tie.spec (λ c κs. search rules) (λ c. search rules) (λ c κs. search rules) (λ c. search rules) (λ c. search rules) returns returns-2 returns-3)
+number-count-spec = tie.close (tie.spec family-of-requires operand-count-requires enum_told returns returns-2)

@@ -1,4 +1,4 @@
--- `ops::op_of`: the table has the ops of the codes below 18, and no op has another code.
+-- `ops::op_of`: the table has the ops of the codes below 17, and no op has another code.
 use mathlib.Core.Path.{◌≡◌, refl}
 use mathlib.Core.Bool.{Bool, true, ◌&&◌}
 use mathlib.Core.List.{List, [], ◌∷◌}
@@ -37,10 +37,10 @@ array-copy-out-result c = search rules
 
 returns : tie.Need-returns
 unfolding tabulate with_code
-returns c = get_d_tabulate 18 op_of c.before.before.args.code _ c.before.if1.true
+returns c = get_d_tabulate 17 op_of c.before.before.args.code _ c.before.if1.true
 
 returns-2 : tie.Need-returns-2
-returns-2 c = beyond 18 c.before.args.code c.if1.false all_ops tt
+returns-2 c = beyond 17 c.before.args.code c.if1.false all_ops tt
 
 pub op-of-spec : {M : Type 1} → statement M
 op-of-spec = tie.close (tie.spec mul-result array-copy-out-result returns returns-2)

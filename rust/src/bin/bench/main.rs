@@ -1,6 +1,6 @@
 //! The reference and the library side by side, in one run of about a minute; prints the figures of docs/PERFORMANCE.md. Words on the command
-//! line name the operators to run, all without any; the copy, the runs of step lists, the literals, the forms bit by bit, the arms and the
-//! sets are always taken.
+//! line name the operators to run, all without any; the copy, the runs of step lists, the literals, the forms bit by bit and the arms are
+//! always taken.
 //!
 //! reference: the operator of `Value`, which allocates its result where that is wider than 64 bits; the drop is in the time too.
 //! ours: the function over planes, every check included, into planes that are lent again for each call.
@@ -15,13 +15,11 @@ mod inputs;
 mod literals;
 mod race;
 mod runs;
-mod sets;
 
 use arms::Arms;
 use by_bits::ByBits;
 use inputs::{output, Input};
 use race::{Race, Side};
-use sets::Sets;
 use std::hint::black_box;
 use vowherunga::reference::draw::Rng;
 use vowherunga::reference::value::Value;
@@ -295,7 +293,6 @@ fn main() {
     let (named_literals, mut literals) = literals::read_and_written(&mut rng);
     let mut by_bits = ByBits::new();
     let mut arms = Arms::new(&mut rng);
-    let mut sets = Sets::new();
     for _ in 0..ROUNDS {
         rows.iter_mut().for_each(|row| row.race.round());
         copy.round();
@@ -304,7 +301,6 @@ fn main() {
         literals.round();
         by_bits.round();
         arms.round();
-        sets.round();
     }
     print_table(&rows, "reference", "ours");
     print_table(&rows, "reference", "by value");
@@ -334,5 +330,4 @@ fn main() {
     }
     by_bits.print();
     arms.print();
-    sets.print();
 }

@@ -42,16 +42,7 @@ impl Shape {
         }
     }
 
-    /// With as many in steps as others.
-    pub fn with_sets(self) -> Shape {
-        let sets = vec![Op::Inside; self.ops.len()];
-        Shape {
-            ops: [self.ops, sets].concat(),
-            ..self
-        }
-    }
-
-    /// Any shape: mostly a short list of few bits, sometimes wide, full, full of in steps, too long, or without inputs.
+    /// Any shape: mostly a short list of few bits, sometimes wide, full, too long, or without inputs.
     pub fn any(rng: &mut Rng) -> Shape {
         let short = Shape {
             has_faults: rng.below(2) == 0,
@@ -71,14 +62,8 @@ impl Shape {
                 widths: WIDE,
                 ..short
             },
-            3 => Shape {
-                inputs: 64,
-                steps: 256,
-                has_faults: true,
-                ..short.with_sets()
-            },
-            4..=7 => Shape { widths: WIDE, ..short },
-            8..=31 => Shape { widths: EDGES, ..short },
+            3..=6 => Shape { widths: WIDE, ..short },
+            7..=30 => Shape { widths: EDGES, ..short },
             _ => short,
         }
     }
@@ -122,7 +107,7 @@ impl Rng {
     }
 
     /// A filled cell, in half of the draws one of the last four; 0 if there is none.
-    pub(super) fn cell(&mut self, cells: usize) -> u32 {
+    fn cell(&mut self, cells: usize) -> u32 {
         let last = cells.min(4);
         match (cells, self.below(2)) {
             (0, _) => 0,
@@ -179,10 +164,10 @@ impl Rng {
             false => *self.member(&shape.ops),
         };
         let mut n = [(); 3].map(|()| self.cell(cells.len()));
-        match op {
-            Op::Select if !is_faulty => (n[1], n[2]) = self.arms(cells),
-            Op::Inside => (n[1], n[2]) = self.items(cells.len(), shape.has_faults),
-            _ => (n[0], n[1]) = self.pair(cells),
+        if op == Op::Select && !is_faulty {
+            (n[1], n[2]) = self.arms(cells);
+        } else {
+            (n[0], n[1]) = self.pair(cells);
         }
         if is_faulty && self.below(3) > 0 {
             n[self.below(3) as usize] = self.no_cell(cells.len());
@@ -202,25 +187,20 @@ impl Rng {
 
     /// A list of a shape.
     pub fn list(&mut self, shape: &Shape) -> Drawn {
-        let mut inputs = Vec::new();
-        for _ in 0..shape.inputs {
-            let v = self.input(shape, &inputs);
-            inputs.push(v);
-        }
-        self.list_on(inputs, shape.steps, |rng, cells| rng.step(shape, cells))
-    }
-
-    /// A list of these inputs and so many steps, each drawn on the cells before it.
-    pub(super) fn list_on(&mut self, inputs: Vec<Vector>, steps: usize, mut draw: impl FnMut(&mut Rng, &[Vector]) -> Step) -> Drawn {
-        let widest = inputs.iter().map(|v| v.header.width).max().unwrap_or(0);
-        let words = (inputs.len() + steps) * word_count(widest);
+        let widest = *shape.widths.iter().max().unwrap();
+        let words = (shape.inputs + shape.steps) * word_count(widest);
         let mut machine = Machine::new(Memory::zeros(words, words));
-        let mut list = List { inputs, steps: Vec::new() };
-        for v in &list.inputs {
-            let _ = machine.add_input(v);
+        let mut list = List {
+            inputs: Vec::new(),
+            steps: Vec::new(),
+        };
+        for _ in 0..shape.inputs {
+            let v = self.input(shape, &list.inputs);
+            let _ = machine.add_input(&v);
+            list.inputs.push(v);
         }
-        for _ in 0..steps {
-            let step = draw(self, &machine.cells);
+        for _ in 0..shape.steps {
+            let step = self.step(shape, &machine.cells);
             let _ = machine.add_step(step);
             list.steps.push(step);
         }

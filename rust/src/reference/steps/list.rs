@@ -11,18 +11,18 @@ pub struct List {
     pub steps: Vec<Step>,
 }
 
-/// How many of a, b and c an op uses; the last one of an insert is its position, and in has all cells from b to c as items.
+/// How many of a, b and c an op uses; the last one of an insert is its position.
 pub fn operands(op: Op) -> usize {
     match op {
         Op::Not | Op::ReduceAnd | Op::ReduceOr | Op::ReduceXor => 1,
-        Op::Select | Op::Insert | Op::Inside => 3,
+        Op::Select | Op::Insert => 3,
         _ => 2,
     }
 }
 
-/// Whether a step of the op keeps known bits: all ops but the case and wildcard comparisons and in.
+/// Whether a step of the op keeps known bits: all ops but the case and wildcard comparisons.
 pub fn keeps_known(op: Op) -> bool {
-    !matches!(op, Op::CaseEqual | Op::CasezEqual | Op::CasexEqual | Op::WildcardEqual | Op::Inside)
+    !matches!(op, Op::CaseEqual | Op::CasezEqual | Op::CasexEqual | Op::WildcardEqual)
 }
 
 /// The bits of a vector, highest first.

@@ -2,7 +2,7 @@
 //! from the standard's, and what is lent is kept whole, so that every word of it can be compared.
 use super::list::{digits, List};
 use crate::planes::word_count;
-use crate::reference::standard::{expected, inside};
+use crate::reference::standard::expected;
 use crate::reference::value::Value;
 use crate::reference::Vector;
 use crate::steps::{Op, Step};
@@ -38,23 +38,20 @@ fn put(planes: &mut [Vec<u64>; 2], at: usize, v: &Vector) {
     }
 }
 
-/// What a step gives; `cells` are the cells so far, of which it names some.
-fn result(step: Step, cells: &[Vector]) -> Vector {
-    let Step { op, a, b, c } = step;
-    let cell = |n: u32| &cells[n as usize];
-    let operand = |n: u32| cell(n).to_value();
+/// What an op gives for its operands.
+fn result<'a>(op: Op, cell: impl Fn(usize) -> &'a Vector, position: u32) -> Vector {
+    let operand = |i: usize| cell(i).to_value();
     let given = match op {
-        Op::Not => operand(a).bitwise_not(),
-        Op::ReduceAnd => operand(a).reduce_and(),
-        Op::ReduceOr => operand(a).reduce_or(),
-        Op::ReduceXor => operand(a).reduce_xor(),
-        Op::LogicAnd => operand(a).logic_and(&operand(b)),
-        Op::LogicOr => operand(a).logic_or(&operand(b)),
-        Op::Select => select(&operand(a), operand(b), operand(c)),
-        Op::Insert => insert(operand(a), &operand(b), c),
-        Op::Inside => return inside(cell(a), (b..=c).map(cell)),
+        Op::Not => operand(0).bitwise_not(),
+        Op::ReduceAnd => operand(0).reduce_and(),
+        Op::ReduceOr => operand(0).reduce_or(),
+        Op::ReduceXor => operand(0).reduce_xor(),
+        Op::LogicAnd => operand(0).logic_and(&operand(1)),
+        Op::LogicOr => operand(0).logic_or(&operand(1)),
+        Op::Select => select(&operand(0), operand(1), operand(2)),
+        Op::Insert => insert(operand(0), &operand(1), position),
         Op::And | Op::Or | Op::Xor | Op::Merge | Op::Equal | Op::CaseEqual | Op::CasezEqual | Op::CasexEqual | Op::WildcardEqual => {
-            return expected(op, cell(a), cell(b))
+            return expected(op, cell(0), cell(1))
         }
     };
     given.into()
@@ -136,10 +133,7 @@ impl Machine {
         if op == Op::Select && (header(1).width != header(2).width || header(1).is_fill || header(2).is_fill) {
             return Err(7);
         }
-        if op == Op::Inside && (b..=c).count() > 64 {
-            return Err(16);
-        }
-        let v = result(step, &self.cells);
+        let v = result(op, |i| &self.cells[named[i]], c);
         let at = self.room(v.value.len())?;
         if self.memory.scratch.iter().any(|plane| plane.len() < v.value.len()) {
             return Err(13);

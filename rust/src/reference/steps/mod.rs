@@ -3,7 +3,6 @@
 mod draw;
 mod list;
 mod machine;
-mod sets;
 
 pub use draw::{Drawn, Shape};
 pub use list::{keeps_known, operands, List};

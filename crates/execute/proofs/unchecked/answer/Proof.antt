@@ -1,14 +1,17 @@
 -- `execute::unchecked::answer`: by the question.
 use mathlib.Core.Path.{◌≡◌, sym, ap, ap₂, ◌∙◌}
+use native.Mathlib.Omega.{arith}
+use Rattle.bit.specs.declared.LogicBit.{LogicBit}
 use Rattle.bit.specs.Rules.{and_bit, or_bit}
 use Rattle.words.specs.declared.Word.{Word}
-use Rattle.words.specs.Planes.{from_planes, bit_of, lent}
+use Rattle.words.specs.Planes.{from_planes, packed, bit_of, lent}
+use Rattle.bits.proofs.Splice.{packed-bit}
 use Rattle.value.specs.Checks.{vector}
 use Rattle.reduce_words.specs.Fold.{truth_bit}
 use Rattle.reduce_words.proofs.Folds.{truth-or}
 use Rattle.ops.specs.declared.Question.{Question}
 use Rattle.ops.specs.Ops.{answer_bit}
-use Rattle.execute.proofs.Words.{lane-bit, everywhere}
+use Rattle.execute.proofs.Words.{lane-bit}
 use borrow.Author.Rules.{rules}
 use Rattle.execute.proofs.unchecked.answer.Statement.{statement}
 use Rattle.execute.proofs.unchecked.answer.Tie as tie
@@ -24,6 +27,10 @@ told c q e =
 -- the lowest place of a word
 low : {x y : Word} → x ≡ y → bit_of x 0 ≡ bit_of y 0
 low e = ap (λ (x : Word). bit_of x 0) e
+
+-- every place of a word holds the bit
+everywhere : {x : Word} {b : LogicBit} → x ≡ packed (λ j. b) → bit_of x 0 ≡ b
+everywhere {b = b} e = low e ∙ packed-bit (λ j. b) 0 (omega arith)
 
 returns : tie.Need-returns
 returns c =

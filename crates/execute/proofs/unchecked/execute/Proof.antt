@@ -1,23 +1,23 @@
--- `execute::unchecked::execute`: the front of scratch is copied.
-use mathlib.Core.Path.{◌≡◌, refl, sym, ap, ap₂, ◌∙◌}
-use mathlib.Core.List.{List, map}
+-- `execute::unchecked::execute`: the cells read are those that the step names, and the front of scratch is copied.
+use mathlib.Core.Path.{◌≡◌, sym, ap, ap₂, ◌∙◌, subst}
+use mathlib.Core.Bool.{true, false}
+use mathlib.Core.List.{List}
 use Prim.Native.Nat.{ℕ}
 use native.Mathlib.Omega.{arith}
 use lib.ListN.{length, take}
-use Rattle.bit.specs.declared.LogicBit.{LogicBit}
 use Rattle.words.specs.Planes.{word_count, Planes, lent, planes_of}
 use Rattle.words.proofs.Planes.{length-tabulate, value-plane, unknown-plane}
 use Rattle.value.specs.declared.Header.{Header}
 use Rattle.value.specs.Checks.{Vector}
-use Rattle.ops.specs.Ops.{work_of, work_reads}
+use Rattle.ops.specs.Ops.{arms_refused, op_header}
 use Rattle.ops.proofs.Results.{result-width}
-use Rattle.ops.proofs.Operands.{arms-read, header_read, operand-all}
 use Rattle.cells.specs.declared.Fields.{Fields}
-use Rattle.cells.specs.Cells.{put_planes}
+use Rattle.cells.specs.Cells.{cell_vector, cell_agrees, put_planes}
 use Rattle.cells.specs.Places.{fields}
 use Rattle.cells.proofs.Tail.{front-is}
 use Rattle.plan.specs.declared.PlannedStep.{PlannedStep}
-use Rattle.execute.specs.Executed.{LentMemory, vector_in, planned_bits, Executable}
+use Rattle.execute.specs.declared.Operands.{Operands}
+use Rattle.execute.specs.Executed.{op_cells, LentMemory, operands_of, planned_result, Executable}
 use borrow.Author.Rules.{rules}
 use Rattle.execute.proofs.unchecked.execute.Statement.{statement}
 use Rattle.execute.proofs.unchecked.execute.Tie as tie
@@ -25,33 +25,33 @@ use Rattle.execute.proofs.unchecked.execute.Tie as tie
 -- ---- the result of a step that can be executed
 
 module _ (p : PlannedStep) (f : Fields) (m : LentMemory) (h : Executable p f m) where
-  abbrev r : List LogicBit
-  r = planned_bits p f m.arenas
+  abbrev r : Vector
+  r = planned_result p f m.arenas
 
   abbrev n : ℕ
   n = word_count p.header.width
 
-  width : length r ≡ p.header.width
+  width : length r.bits ≡ p.header.width
   width =
-      let g : ℕ → Vector = vector_in f m.arenas in
-      result-width (map g (work_reads (work_of p.op) p.a p.b p.c)) p.pos
-      (operand-all (λ (v : Vector). length v.bits ≡ v.header.width) refl g (λ j. length-tabulate _ _) (work_reads (work_of p.op) p.a p.b p.c))
-      p.op (sym (arms-read g p.a p.b p.c (work_of p.op)) ∙ h.arms)
-      ∙ ap (λ (x : Header). x.width) (sym (header_read g p.a p.b p.c (work_of p.op)) ∙ sym h.header)
+      let o = operands_of p f in
+      result-width (cell_vector m.arenas o.a) (cell_vector m.arenas o.b) (cell_vector m.arenas o.c) p.pos
+      (length-tabulate _ _) (length-tabulate _ _) (length-tabulate _ _) p.op h.arms
+      ∙ sym (ap (λ (x : Header). x.width) h.header)
 
-  value-front : (take n (put_planes 0 (planes_of r) m.scratch).value ≡ (planes_of r).value)
-      × (length (put_planes 0 (planes_of r) m.scratch).value ≡ length m.scratch.value)
-  value-front = front-is n (planes_of r).value m.scratch.value ((value-plane r).count ∙ ap word_count width) h.value_room
+  value-front : (take n (put_planes 0 (planes_of r.bits) m.scratch).value ≡ (planes_of r.bits).value)
+      × (length (put_planes 0 (planes_of r.bits) m.scratch).value ≡ length m.scratch.value)
+  value-front = front-is n (planes_of r.bits).value m.scratch.value ((value-plane r.bits).count ∙ ap word_count width) h.value_room
 
-  unknown-front : (take n (put_planes 0 (planes_of r) m.scratch).unknown ≡ (planes_of r).unknown)
-      × (length (put_planes 0 (planes_of r) m.scratch).unknown ≡ length m.scratch.unknown)
-  unknown-front = front-is n (planes_of r).unknown m.scratch.unknown ((unknown-plane r).count ∙ ap word_count width) h.unknown-room
+  unknown-front : (take n (put_planes 0 (planes_of r.bits) m.scratch).unknown ≡ (planes_of r.bits).unknown)
+      × (length (put_planes 0 (planes_of r.bits) m.scratch).unknown ≡ length m.scratch.unknown)
+  unknown-front = front-is n (planes_of r.bits).unknown m.scratch.unknown ((unknown-plane r.bits).count ∙ ap word_count width) h.unknown-room
 
 -- ---- the call
 
-module _ (w : tie.After-work-step) where
+-- the cells are read
+module _ (k : tie.After-cell-at3) where
   abbrev st : tie.Start
-  st = w.before.before.before.before.before.before.before.before.before
+  st = k.before.before.before.before.before.before.before
 
   abbrev step : PlannedStep
   step = st.args.p
@@ -65,22 +65,59 @@ module _ (w : tie.After-work-step) where
   ready : Executable step table memory
   ready = st.pre
 
-  -- the result stands in the scratch planes
-  abbrev scratch : Planes
-  scratch = lent w.Work-step.last.1.1.1.1.1.1.1.0 w.Work-step.last.1.1.1.1.1.1.1.1.0
+  abbrev cells : Operands
+  cells = record { a = k.before.before.Cell-at.result; b = k.before.cell-at2.result; c = k.cell-at3.result }
 
-  worked : scratch ≡ put_planes 0 (planes_of (planned_bits step table memory.arenas)) memory.scratch
-  worked = w.Work-step.ensures
+  read : cells ≡ operands_of step table
+  read = λ i. record { a = k.before.before.Cell-at.ensures i; b = k.before.cell-at2.ensures i; c = k.cell-at3.ensures i }
+
+-- the result stands in the scratch planes
+module _ (w : tie.After-work-cells) where
+  abbrev k : tie.After-cell-at3
+  k = w.before.before.before.before.before.before
+
+  abbrev scratch : Planes
+  scratch = lent w.work-cells.last.1.1.1.1.1.1.0 w.work-cells.last.1.1.1.1.1.1.1.0
+
+  worked : scratch ≡ put_planes 0 (planes_of (planned_result (step k) (table k) (memory k).arenas).bits) (memory k).scratch
+  worked =
+      w.work-cells.ensures
+      ∙ ap (λ (o : Operands). put_planes 0 (planes_of (op_cells (step k).op o (step k).pos (memory k).arenas).bits) (memory k).scratch) (read k)
+
+work-cells-requires : tie.Need-work-cells-requires
+work-cells-requires c κs =
+    let k = c.before.before.before.before.before in
+    let h = ready k in
+    let e = sym (read k) in
+    let a = (memory k).arenas in (
+      h.level,
+      (
+        subst (λ (o : Operands). cell_agrees a o.a.start o.a ≡ true) e h.a-agrees,
+        (
+          subst (λ (o : Operands). cell_agrees a o.b.start o.b ≡ true) e h.b-agrees,
+          (
+            subst (λ (o : Operands). cell_agrees a o.c.start o.c ≡ true) e h.c-agrees,
+            (
+              subst (λ (o : Operands). arms_refused (step k).op o.b.header o.c.header ≡ false) e h.arms,
+              (
+                subst (λ (o : Operands). (step k).header ≡ op_header (step k).op o.a.header o.b.header o.c.header) e h.header,
+                (h.value_room, h.unknown-room),
+              ),
+            ),
+          ),
+        ),
+      ),
+    )
 
 copy-behind-requires : tie.Need-copy-behind-requires
 copy-behind-requires c κs =
     let n = c.before.before.before.before in
-    let w = n.before.before.before.before.before.before in
-    let h = ready w in
-    let v = value-front (step w) (table w) (memory w) h in
-    let u = unknown-front (step w) (table w) (memory w) h in
-    let x : length (scratch w).value ≡ length (memory w).scratch.value = ap (λ (p : Planes). length p.value) (worked w) ∙ v.1 in
-    let y : length (scratch w).unknown ≡ length (memory w).scratch.unknown = ap (λ (p : Planes). length p.unknown) (worked w) ∙ u.1 in (
+    let w = n.before.before.before.before.before in
+    let h = ready (k w) in
+    let v = value-front (step (k w)) (table (k w)) (memory (k w)) h in
+    let u = unknown-front (step (k w)) (table (k w)) (memory (k w)) h in
+    let x : length (scratch w).value ≡ length (memory (k w)).scratch.value = ap (λ (p : Planes). length p.value) (worked w) ∙ v.1 in
+    let y : length (scratch w).unknown ≡ length (memory (k w)).scratch.unknown = ap (λ (p : Planes). length p.unknown) (worked w) ∙ u.1 in (
       (omega (arith, x, h.value_room, n.word_count.ensures), omega (arith, y, h.unknown-room, n.word_count.ensures)),
       (omega (arith, h.room, n.word_count.ensures), omega (arith, h.room, h.level, n.word_count.ensures)),
     )
@@ -89,14 +126,16 @@ returns : tie.Need-returns
 returns c =
     let b = c.before.before.before.before in
     let n = b.before.before.before.before.before in
-    let w = n.before.before.before.before.before.before in
-    let p = step w in
-    let m = memory w in
-    let h = ready w in
+    let w = n.before.before.before.before.before in
+    let p = step (k w) in
+    let m = memory (k w) in
+    let h = ready (k w) in
+    let r = planes_of (planned_result p (table (k w)) m.arenas).bits in
     let e =
     b.copy-behind.ensures
     ∙ ap₂ (λ (i : ℕ) (q : Planes). put_planes p.start (lent (take i q.value) (take i q.unknown)) m.arenas) n.word_count.ensures (worked w)
-    ∙ ap₂ (λ (v u : List ℕ). put_planes p.start (lent v u) m.arenas) (value-front p (table w) m h).0 (unknown-front p (table w) m h).0 in
+    ∙ ap₂ (λ (v u : List ℕ). put_planes p.start (lent v u) m.arenas)
+    (value-front p (table (k w)) m h).0 (unknown-front p (table (k w)) m h).0 in
     λ i. record { arenas = e i; scratch = worked w i }
 
 pub execute-spec : {M : Type 1} → statement M
@@ -104,6 +143,9 @@ execute-spec =
     tie.close
     (tie.spec
     (λ c κs. search rules)
+    (λ c κs. search rules)
+    (λ c κs. search rules)
+    work-cells-requires
     (λ c κs. search rules)
     copy-behind-requires
     (λ c. search rules)

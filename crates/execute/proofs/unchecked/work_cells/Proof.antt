@@ -9,8 +9,8 @@ use Rattle.words.specs.Planes.{word_count, Planes, lent, planes_of, Plane}
 use Rattle.words.proofs.Planes.{length-tabulate, value-plane, unknown-plane}
 use Rattle.value.specs.declared.Header.{Header}
 use Rattle.value.specs.Checks.{vector}
-use Rattle.ops.specs.Ops.{family_header, family_bits}
-use Rattle.ops.proofs.Results.{family-width}
+use Rattle.ops.specs.Ops.{op_header, op_vector}
+use Rattle.ops.proofs.Results.{result-width}
 use Rattle.cells.specs.declared.Cell.{Cell}
 use Rattle.cells.specs.Cells.{span, cell_vector, cell_agrees}
 use Rattle.cells.proofs.Spans.{cell-fits, Readable, fits_read}
@@ -62,7 +62,7 @@ abbrev start : tie.After-word-count → tie.Start
 start w = w.before.before.before.before.before
 
 size : (w : tie.After-word-count) → let s = start w in
-    w.word_count.result - 0 ≡ word_count (family_header s.args.k s.args.o.a.header s.args.o.b.header s.args.o.c.header).width
+    w.word_count.result - 0 ≡ word_count (op_header s.args.op s.args.o.a.header s.args.o.b.header s.args.o.c.header).width
 size w =
     let e = ap (λ (h : Header). word_count h.width) (start w).requires.1.1.1.1.1.0 in
     omega (arith, w.word_count.ensures, e)
@@ -129,19 +129,19 @@ returns c =
     let o = g.o in
     let n : ℕ = w.word_count.result - 0 in
     let a = arenas s in
-    let r = family_bits g.k (cell_vector a o.a) (cell_vector a o.b) (cell_vector a o.c) g.pos in
-    let width = family-width (cell_vector a o.a) (cell_vector a o.b) (cell_vector a o.c) g.pos (length-tabulate _ _) (length-tabulate _ _) (length-tabulate _ _) g.k s.pre.1.1.1.1.0 in
+    let r = op_vector g.op (cell_vector a o.a) (cell_vector a o.b) (cell_vector a o.c) g.pos in
+    let width = result-width (cell_vector a o.a) (cell_vector a o.b) (cell_vector a o.c) g.pos (length-tabulate _ _) (length-tabulate _ _) (length-tabulate _ _) g.op s.pre.1.1.1.1.0 in
     let words = size w ∙ ap word_count (sym width) in
-    let e : lent k.work.new.1.1.1.1.1.1.1.1.1.1.1.0 k.work.new.1.1.1.1.1.1.1.1.1.1.1.1.0 ≡ planes_of r =
+    let e : lent k.work.new.1.1.1.1.1.1.1.1.1.1.1.0 k.work.new.1.1.1.1.1.1.1.1.1.1.1.1.0 ≡ planes_of r.bits =
     k.work.ensures
     ∙ (λ k.
     planes_of
-    (family_bits g.k
+    (op_vector g.op
     (vector o.a.header (lent (c1.cell-words.ensures k) (c2.cell-words2.ensures k)))
     (vector o.b.header (lent (c3.cell-words3.ensures k) (c4.cell-words4.ensures k)))
-    (vector o.c.header (lent (c5.cell-words5.ensures k) (c6.cell-words6.ensures k))) g.pos)) in
-    front-back n _ (planes_of r) (lent g.ov.now g.ou.now) e
-    (words ∙ sym (value-plane r).count) (words ∙ sym (unknown-plane r).count)
+    (vector o.c.header (lent (c5.cell-words5.ensures k) (c6.cell-words6.ensures k))) g.pos).bits) in
+    front-back n _ (planes_of r.bits) (lent g.ov.now g.ou.now) e
+    (words ∙ sym (value-plane r.bits).count) (words ∙ sym (unknown-plane r.bits).count)
 
 pub work-cells-spec : {M : Type 1} → statement M
 work-cells-spec =

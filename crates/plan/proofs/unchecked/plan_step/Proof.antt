@@ -14,7 +14,7 @@ use Rattle.words.specs.Planes.{word_count}
 use Rattle.words.proofs.Planes.{length-tabulate}
 use Rattle.value.specs.declared.Header.{Header}
 use Rattle.ops.specs.declared.Step.{Step}
-use Rattle.ops.specs.Ops.{arms_refused, items_refused, op_header}
+use Rattle.ops.specs.Ops.{arms_refused, op_header}
 use Rattle.machine.specs.Machine.{header_at, names, step_header, words_taken, check_step}
 use Rattle.cells.specs.Places.{header_of}
 use Rattle.plan.specs.Planned.{named}
@@ -102,21 +102,13 @@ arms a b q =
     ∙ (λ i. arms_refused (step (e k)).op (sym (y-read k) i) (sym (z-read k) i))
     ∙ sym a.arms-refused.ensures ∙ q
 
--- and of the items
-items : (x : tie.After-items-refused) (b : Bool) → let s = st x.before.before.before in x.items_refused.result ≡ b
-    → items_refused s.args.step.op s.args.step.b s.args.step.c ≡ b
-items x b q = sym x.items_refused.ensures ∙ q
-
 -- the result's header and its words
 module _ (w : tie.After-word-count) where
   abbrev r : tie.After-result-header
   r = w.before
 
-  abbrev i : tie.After-items-refused
-  i = r.before.before
-
   abbrev a : tie.After-arms-refused
-  a = i.before.before
+  a = r.before.before
 
   abbrev k : tie.After-header-at3
   k = a.before
@@ -143,7 +135,7 @@ module _ (w : tie.After-word-count) where
   unfolding check_step
   decided b h =
       let v = word_count (step_header (hs s) s.args.step).width in
-      simp (lt-leb _ _ (few s (first (e k)).before.if1.left), names-all (e k), arms a false i.before.if3.left, items i false r.before.if4.left)
+      simp (lt-leb _ _ (few s (first (e k)).before.if1.left), names-all (e k), arms a false r.before.if3.left)
       (joined (ltb (s.args.room.arena - words_taken (hs s)) v) (ltb s.args.room.scratch v)
       ∙ (λ i. cond (ltb (s.args.room.arena - sym s.pre.1 i) (sym words i) || ltb s.args.room.scratch (sym words i)) (refused 13) (given tt))
       ∙ ap (λ (t : Bool). cond t (refused 13) (given tt)) h)
@@ -173,25 +165,17 @@ returns-3 c =
     let b = e c.before.before in
     simp (lt-leb _ _ (few (start b) (first b).before.if1.left), names-all b, arms c.before true c.if3.true)
 
-returns-4 : tie.Need-returns-4
-unfolding check_step
-returns-4 c =
-    let x = c.before in
-    let a = x.before.before in
-    let b = e a.before in
-    simp (lt-leb _ _ (few (start b) (first b).before.if1.left), names-all b, arms a false x.before.if3.false, items x true c.if4.true)
+sub-if4 : tie.Need-overflow-sub-if4
+sub-if4 c = omega (arith, (s c.before).pre.2)
 
-sub-if5 : tie.Need-overflow-sub-if5
-sub-if5 c = omega (arith, (s c.before).pre.2)
+returns-4 : tie.Need-returns-4
+returns-4 c = let w = c.before.before.before in simp (decided w true c.if4.true)
 
 returns-5 : tie.Need-returns-5
-returns-5 c = let w = c.before.before.before in simp (decided w true c.if5.true)
-
-returns-6 : tie.Need-returns-6
-returns-6 c =
+returns-5 c =
     let w = c.before.before.before.before in
     let n = (first (e (k w))).named.ensures in
-    simp (decided w false c.before.if5.false)
+    simp (decided w false c.before.if4.false)
     (λ i. given (record {
       op = (s w).args.step.op;
       a = (n i).a;
@@ -218,10 +202,8 @@ plan-step-spec =
     (λ c κs. search rules)
     returns-3
     (λ c κs. search rules)
+    (λ c κs. search rules)
+    sub-if4
     returns-4
-    (λ c κs. search rules)
-    (λ c κs. search rules)
-    sub-if5
-    returns-5
     (λ c. search rules)
-    returns-6)
+    returns-5)

@@ -1,9 +1,9 @@
--- `ops::work_of`: by the op.
+-- `ops::family_of`: by the op.
 use mathlib.Core.Path.{sym, ap}
-use Rattle.ops.specs.Ops.{work_of}
+use Rattle.ops.specs.Ops.{family_of}
 use borrow.Author.Rules.{rules}
-use Rattle.ops.proofs.work_of.Statement.{statement}
-use Rattle.ops.proofs.work_of.Tie as tie
+use Rattle.ops.proofs.family_of.Statement.{statement}
+use Rattle.ops.proofs.family_of.Tie as tie
 
 enum_told : tie.Need-enum-told
 enum_told c = search rules
@@ -56,65 +56,59 @@ enum-told-16 c = search rules
 enum-told-17 : tie.Need-enum-told-17
 enum-told-17 c = search rules
 
-enum-told-18 : tie.Need-enum-told-18
-enum-told-18 c = search rules
-
 returns : tie.Need-returns
-returns c = sym (ap work_of c.enum_told.given.1)
+returns c = sym (ap family_of c.enum_told.given.1)
 
 returns-2 : tie.Need-returns-2
-returns-2 c = sym (ap work_of c.enum-told2.given.1)
+returns-2 c = sym (ap family_of c.enum-told2.given.1)
 
 returns-3 : tie.Need-returns-3
-returns-3 c = sym (ap work_of c.enum-told3.given.1)
+returns-3 c = sym (ap family_of c.enum-told3.given.1)
 
 returns-4 : tie.Need-returns-4
-returns-4 c = sym (ap work_of c.enum-told4.given.1)
+returns-4 c = sym (ap family_of c.enum-told4.given.1)
 
 returns-5 : tie.Need-returns-5
-returns-5 c = sym (ap work_of c.enum-told5.given.1)
+returns-5 c = sym (ap family_of c.enum-told5.given.1)
 
 returns-6 : tie.Need-returns-6
-returns-6 c = sym (ap work_of c.enum-told6.given.1)
+returns-6 c = sym (ap family_of c.enum-told6.given.1)
 
 returns-7 : tie.Need-returns-7
-returns-7 c = sym (ap work_of c.enum-told7.given.1)
+returns-7 c = sym (ap family_of c.enum-told7.given.1)
 
 returns-8 : tie.Need-returns-8
-returns-8 c = sym (ap work_of c.enum-told8.given.1)
+returns-8 c = sym (ap family_of c.enum-told8.given.1)
 
 returns-9 : tie.Need-returns-9
-returns-9 c = sym (ap work_of c.enum-told9.given.1)
+returns-9 c = sym (ap family_of c.enum-told9.given.1)
 
 returns-10 : tie.Need-returns-10
-returns-10 c = sym (ap work_of c.enum-told10.given.1)
+returns-10 c = sym (ap family_of c.enum-told10.given.1)
 
 returns-11 : tie.Need-returns-11
-returns-11 c = sym (ap work_of c.enum-told11.given.1)
+returns-11 c = sym (ap family_of c.enum-told11.given.1)
 
 returns-12 : tie.Need-returns-12
-returns-12 c = sym (ap work_of c.enum-told12.given.1)
+returns-12 c = sym (ap family_of c.enum-told12.given.1)
 
 returns-13 : tie.Need-returns-13
-returns-13 c = sym (ap work_of c.enum-told13.given.1)
+returns-13 c = sym (ap family_of c.enum-told13.given.1)
 
 returns-14 : tie.Need-returns-14
-returns-14 c = sym (ap work_of c.enum-told14.given.1)
+returns-14 c = sym (ap family_of c.enum-told14.given.1)
 
 returns-15 : tie.Need-returns-15
-returns-15 c = sym (ap work_of c.enum-told15.given.1)
+returns-15 c = sym (ap family_of c.enum-told15.given.1)
 
 returns-16 : tie.Need-returns-16
-returns-16 c = sym (ap work_of c.enum-told16.given.1)
+returns-16 c = sym (ap family_of c.enum-told16.given.1)
 
 returns-17 : tie.Need-returns-17
-returns-17 c = sym (ap work_of c.enum-told17.given.1)
+returns-17 c = sym (ap family_of c.enum-told17.given.1)
 
-returns-18 : tie.Need-returns-18
-returns-18 c = sym (ap work_of c.enum-told18.given.1)
-
-pub work-of-spec : {M : Type 1} → statement M
-work-of-spec =
+pub family-of-spec : {M : Type 1} → statement M
+family-of-spec =
     tie.close
     (tie.spec
     enum_told
@@ -134,7 +128,6 @@ work-of-spec =
     enum-told-15
     enum-told-16
     enum-told-17
-    enum-told-18
     returns
     returns-2
     returns-3
@@ -151,5 +144,4 @@ work-of-spec =
     returns-14
     returns-15
     returns-16
-    returns-17
-    returns-18)
+    returns-17)
