@@ -1,5 +1,7 @@
 // The answers of the entries as numbers, for C and Rust. A refusal is its number, and 0 is done; a bit is its code, a word of both planes
 // two numbers, a rule its number, counted from 1, and its place, 0 where it has none; the other fields of a refused call are 0.
+#![tactic(auto)]
+
 ghost use Rattle.std.specs.Prelude.{◌≡◌};
 ghost use Rattle.refusal.specs.Outcome.{verdict};
 ghost use Rattle.refusal.specs.Outcome.Answer.{given};
@@ -21,14 +23,14 @@ use truth::TruthAnswer;
 use value::{BitAnswer, Header, Operand, VectorAnswer, WordAnswer};
 
 #[repr(C)]
-#[derive(Drop)]
+#[derive(Clone, Copy)]
 pub struct BitResult {
     pub refusal: u8,
     pub bit: u8,
 }
 
 #[repr(C)]
-#[derive(Drop)]
+#[derive(Clone, Copy)]
 pub struct WordResult {
     pub refusal: u8,
     pub value: u64,
@@ -36,7 +38,7 @@ pub struct WordResult {
 }
 
 #[repr(C)]
-#[derive(Drop)]
+#[derive(Clone, Copy)]
 pub struct HeaderResult {
     pub refusal: u8,
     pub width: u32,
@@ -45,14 +47,14 @@ pub struct HeaderResult {
 }
 
 #[repr(C)]
-#[derive(Drop)]
+#[derive(Clone, Copy)]
 pub struct LengthResult {
     pub refusal: u8,
     pub length: usize,
 }
 
 #[repr(C)]
-#[derive(Drop)]
+#[derive(Clone, Copy)]
 pub struct DecisionResult {
     pub refusal: u8,
     pub bit: u8,

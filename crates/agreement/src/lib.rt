@@ -1,5 +1,7 @@
 // When the answer that a line of a table tells is what a call gave: a field of a line as it was read, compared with a bit, a decision, a
 // vector's header or planes.
+#![tactic(auto)]
+
 ghost use Rattle.std.specs.Prelude.{◌≡◌, get_or};
 ghost use Rattle.agreement.specs.Answers.{answered, same_code, same_decision, same_header};
 ghost use Rattle.agreement.specs.Holds.{holds_from, same_words};
@@ -9,7 +11,7 @@ use value::Header;
 use words::Word;
 
 // A field of a line, read in each way that its text can be meant.
-#[derive(Drop)]
+#[derive(Clone, Copy)]
 pub struct Field {
     pub is_refusal: bool,
     pub is_real: bool,

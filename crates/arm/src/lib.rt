@@ -1,4 +1,6 @@
 // The arm that a condition picks, handed back as a part of the caller's own plane.
+#![tactic(auto)]
+
 ghost use Rattle.std.specs.Prelude.{◌≡◌};
 ghost use Rattle.arm.specs.Arm.{part_of, chosen_arm};
 

@@ -1,9 +1,11 @@
 // A four-state bit: its code, and the single-bit rules as constant tables over bit codes.
+#![tactic(auto)]
+
 ghost use Rattle.std.specs.Prelude.{◌≡◌};
 ghost use Rattle.bit.specs.Rules.{code, of_code, entry, and_bit, or_bit, xor_bit, merge_bit, not_bit};
 
 // 0 and 1 are known; x and z are unknown.
-#[derive(Drop)]
+#[derive(Clone, Copy)]
 pub enum LogicBit {
     Zero,
     One,

@@ -78,7 +78,7 @@ pub fn splice64(
 )
     requires plane { Plane width value.old }
     requires plane_2 { Plane width unknown.old }
-    ensures { lent_by value.exit unknown.exit
+    ensures { lent_by value.new unknown.new
         ≡ planes_of (spliced (from_planes width value.old unknown.old) pos n bits) }
 {
     let w = width as usize;

@@ -1,4 +1,6 @@
 // And, or, xor, merge and not, into lent planes.
+#![tactic(auto)]
+
 ghost use Rattle.std.specs.Prelude.{◌≡◌};
 ghost use Rattle.refusal.specs.Outcome.{outcome};
 ghost use Rattle.words.specs.Planes.{lent_by};
@@ -24,8 +26,8 @@ fn join_vectors(
     ov: &mut [u64],
     ou: &mut [u64],
 ) -> VectorAnswer
-    ensures { outcome (vector_answer result) (lent_by ov.exit ou.exit)
-        ≡ join_vectors op a (lent_by av.entry au.entry) b (lent_by bv.entry bu.entry) (lent_by ov.entry ou.entry) }
+    ensures { outcome (vector_answer result) (lent_by ov.new ou.new)
+        ≡ join_vectors op a (lent_by av.now au.now) b (lent_by bv.now bu.now) (lent_by ov.old ou.old) }
 {
     match check_vector(a, av, au) {
         Verdict::Refused(r) => VectorAnswer::Refused(r),
@@ -57,8 +59,8 @@ pub fn bitwise_and(
     ov: &mut [u64],
     ou: &mut [u64],
 ) -> VectorAnswer
-    ensures { outcome (vector_answer result) (lent_by ov.exit ou.exit)
-        ≡ join_vectors And a (lent_by av.entry au.entry) b (lent_by bv.entry bu.entry) (lent_by ov.entry ou.entry) }
+    ensures { outcome (vector_answer result) (lent_by ov.new ou.new)
+        ≡ join_vectors And a (lent_by av.now au.now) b (lent_by bv.now bu.now) (lent_by ov.old ou.old) }
 {
     join_vectors(Bitwise::And, a, av, au, b, bv, bu, ov, ou)
 }
@@ -74,8 +76,8 @@ pub fn bitwise_or(
     ov: &mut [u64],
     ou: &mut [u64],
 ) -> VectorAnswer
-    ensures { outcome (vector_answer result) (lent_by ov.exit ou.exit)
-        ≡ join_vectors Or a (lent_by av.entry au.entry) b (lent_by bv.entry bu.entry) (lent_by ov.entry ou.entry) }
+    ensures { outcome (vector_answer result) (lent_by ov.new ou.new)
+        ≡ join_vectors Or a (lent_by av.now au.now) b (lent_by bv.now bu.now) (lent_by ov.old ou.old) }
 {
     join_vectors(Bitwise::Or, a, av, au, b, bv, bu, ov, ou)
 }
@@ -91,8 +93,8 @@ pub fn bitwise_xor(
     ov: &mut [u64],
     ou: &mut [u64],
 ) -> VectorAnswer
-    ensures { outcome (vector_answer result) (lent_by ov.exit ou.exit)
-        ≡ join_vectors Xor a (lent_by av.entry au.entry) b (lent_by bv.entry bu.entry) (lent_by ov.entry ou.entry) }
+    ensures { outcome (vector_answer result) (lent_by ov.new ou.new)
+        ≡ join_vectors Xor a (lent_by av.now au.now) b (lent_by bv.now bu.now) (lent_by ov.old ou.old) }
 {
     join_vectors(Bitwise::Xor, a, av, au, b, bv, bu, ov, ou)
 }
@@ -108,8 +110,8 @@ pub fn merge_unknown(
     ov: &mut [u64],
     ou: &mut [u64],
 ) -> VectorAnswer
-    ensures { outcome (vector_answer result) (lent_by ov.exit ou.exit)
-        ≡ join_vectors Merge a (lent_by av.entry au.entry) b (lent_by bv.entry bu.entry) (lent_by ov.entry ou.entry) }
+    ensures { outcome (vector_answer result) (lent_by ov.new ou.new)
+        ≡ join_vectors Merge a (lent_by av.now au.now) b (lent_by bv.now bu.now) (lent_by ov.old ou.old) }
 {
     join_vectors(Bitwise::Merge, a, av, au, b, bv, bu, ov, ou)
 }
@@ -122,8 +124,8 @@ pub fn bitwise_not(
     ov: &mut [u64],
     ou: &mut [u64],
 ) -> VectorAnswer
-    ensures { outcome (vector_answer result) (lent_by ov.exit ou.exit)
-        ≡ bitwise_not a (lent_by av.entry au.entry) (lent_by ov.entry ou.entry) }
+    ensures { outcome (vector_answer result) (lent_by ov.new ou.new)
+        ≡ bitwise_not a (lent_by av.now au.now) (lent_by ov.old ou.old) }
 {
     let width = a.width;
     match check_vector(a, av, au) {

@@ -1,4 +1,6 @@
 // Two vectors joined place by place, and not of one, into lent planes, and the header of two vectors joined.
+#![tactic(auto)]
+
 ghost use Rattle.std.specs.Prelude.{◌≡◌};
 ghost use Rattle.bitwise_words.specs.Joined.{result_header};
 

@@ -29,10 +29,10 @@ fn join_words(
     requires n_in_bounds_2 { (n ≤ length bv.now) × (n ≤ length bu.now) }
     requires n_in_bounds_3 { (n ≤ length ov.old) × (n ≤ length ou.old) }
     ensures filled_to { FilledTo 0
-        (λ k. (joined_word op (lent_by av.entry au.entry) (lent_by bv.entry bu.entry) k).value)
+        (λ k. (joined_word op (lent_by av.now au.now) (lent_by bv.now bu.now) k).value)
         (length ov.old) n ov.new }
     ensures filled_to_2 { FilledTo 0
-        (λ k. (joined_word op (lent_by av.entry au.entry) (lent_by bv.entry bu.entry) k).unknown)
+        (λ k. (joined_word op (lent_by av.now au.now) (lent_by bv.now bu.now) k).unknown)
         (length ou.old) n ou.new }
 {
     let mut k = 0;
@@ -67,10 +67,10 @@ fn join_whole(
     requires n_in_bounds_2 { (n ≤ length bv.now) × (n ≤ length bu.now) }
     requires n_in_bounds_3 { (n ≤ length ov.old) × (n ≤ length ou.old) }
     ensures filled_to { FilledTo 0
-        (λ k. (joined_word op (lent_by av.entry au.entry) (lent_by bv.entry bu.entry) k).value)
+        (λ k. (joined_word op (lent_by av.now au.now) (lent_by bv.now bu.now) k).value)
         (length ov.old) n ov.new }
     ensures filled_to_2 { FilledTo 0
-        (λ k. (joined_word op (lent_by av.entry au.entry) (lent_by bv.entry bu.entry) k).unknown)
+        (λ k. (joined_word op (lent_by av.now au.now) (lent_by bv.now bu.now) k).unknown)
         (length ou.old) n ou.new }
 {
     match op {
@@ -99,8 +99,8 @@ fn join_extents(
     requires covers_2 { Covers y (lent_by bv bu) }
     requires width_le_width { (x.width ≤ width) × (y.width ≤ width) }
     requires ov_len { (length ov.old ≡ word_count width) × (length ou.old ≡ word_count width) }
-    ensures { lent_by ov.exit ou.exit
-        ≡ planes_of (joined_over op width x (lent_by av.entry au.entry) y (lent_by bv.entry bu.entry)) }
+    ensures { lent_by ov.new ou.new
+        ≡ planes_of (joined_over op width x (lent_by av.now au.now) y (lent_by bv.now bu.now)) }
 {
     let xb = x.beyond;
     let yb = y.beyond;
@@ -134,9 +134,9 @@ pub fn join_planes(
     requires plane_2 { Plane b.width bv.now × Plane b.width bu.now }
     requires width_value { width ≡ max a.width b.width }
     requires ov_len { (length ov.old ≡ word_count width) × (length ou.old ≡ word_count width) }
-    ensures { lent_by ov.exit ou.exit
+    ensures { lent_by ov.new ou.new
         ≡ planes_of
-        (joined op (vector a (lent_by av.entry au.entry)) (vector b (lent_by bv.entry bu.entry))) }
+        (joined op (vector a (lent_by av.now au.now)) (vector b (lent_by bv.now bu.now))) }
 {
     let x = extent(a, av, au, b);
     let y = extent(b, bv, bu, a);
@@ -147,8 +147,8 @@ pub fn join_planes(
 pub fn not_planes(width: u32, av: &[u64], au: &[u64], ov: &mut [u64], ou: &mut [u64])
     requires plane { Plane width av.now × Plane width au.now }
     requires ov_len { (length ov.old ≡ word_count width) × (length ou.old ≡ word_count width) }
-    ensures ou_value { lent_by ov.exit ou.exit ≡ inverted_planes width (lent_by av.entry au.entry) }
-    ensures ou_value_2 { lent_by ov.exit ou.exit
+    ensures ou_value { lent_by ov.new ou.new ≡ inverted_planes width (lent_by av.now au.now) }
+    ensures ou_value_2 { lent_by ov.new ou.new
         ≡ planes_of (inverted (from_planes width av.now au.now)) }
 {
     let last = ov.len() - 1;

@@ -1,7 +1,6 @@
 -- Document 01, "Cell store": the 320 places of a store as four lists, one for the start words and one for each part of a header, so that they can be
 -- lent.
 use Rattle.std.specs.Prelude.{◌≡◌, Bool, false, List, map, ℕ, length, get_or, replicate}
-use Rattle.std.specs.Borrow.{Bor}
 use Rattle.words.specs.Vector.{tabulate}
 use Rattle.value.specs.declared.Header.{Header}
 use Rattle.value.specs.Checks.{plain}
@@ -11,9 +10,9 @@ use Rattle.cells.specs.declared.Fields.{Fields}
 abbrev pub fields : List ℕ → List ℕ → List Bool → List Bool → Fields
 fields a b c d = record { starts = a; widths = b; signs = c; fills = d }
 
--- by the references
-abbrev pub fields_by : (starts widths : Bor (List ℕ)) → (signs fills : Bor (List Bool)) → Fields
-fields_by a b c d = fields a.now b.now c.now d.now
+-- by what is lent
+abbrev pub fields_by : (starts widths : List ℕ) → (signs fills : List Bool) → Fields
+fields_by a b c d = fields a b c d
 
 -- each list has 320 places
 pub record Whole (f : Fields) : Type 0 where
@@ -34,9 +33,9 @@ cell_of f i = record { start = get_or f.starts i 0; header = header_of f.widths 
 abbrev pub places_of : Fields → List Cell
 places_of f = tabulate 320 (cell_of f)
 
--- the first n headers, by the references
-abbrev pub headers_by : ℕ → (widths : Bor (List ℕ)) → (signs fills : Bor (List Bool)) → List Header
-headers_by n w s f = tabulate n (header_of w.now s.now f.now)
+-- the first n headers, by what is lent
+abbrev pub headers_by : ℕ → (widths : List ℕ) → (signs fills : List Bool) → List Header
+headers_by n w s f = tabulate n (header_of w s f)
 
 -- the four lists of these cells
 abbrev pub fields_of : List Cell → Fields

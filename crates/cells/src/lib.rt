@@ -1,5 +1,7 @@
 // Cells: vectors whose words lie one behind the other in two lent arenas. What is read of them, their check, and how the words of one
 // are put behind the last.
+#![tactic(auto)]
+
 ghost use Rattle.std.specs.Prelude.{◌≡◌, take};
 ghost use Rattle.refusal.specs.Outcome.{after};
 ghost use Rattle.refusal.specs.Outcome.Answer.{given};
@@ -15,14 +17,14 @@ use words::word_count;
 pub mod unchecked;
 
 // Where a vector's words begin in both arenas, and its header.
-#[derive(Drop)]
+#[derive(Clone, Copy)]
 pub struct Cell {
     pub start: usize,
     pub header: Header,
 }
 
 // The start words, the widths and the two marks of 320 cells, as arrays that can be lent.
-#[derive(Drop)]
+#[derive(Clone, Copy)]
 pub struct Fields {
     pub starts: [usize; 320],
     pub widths: [u32; 320],
@@ -31,7 +33,7 @@ pub struct Fields {
 }
 
 // The word at which the next cell begins, or the refusal.
-#[derive(Drop)]
+#[derive(Clone, Copy)]
 pub enum PlaceAnswer {
     At(usize),
     Refused(Refusal),
@@ -52,7 +54,7 @@ pub fn no_fields() -> Fields
 // The word behind the first `count` of 320 cells, or 14 if the cells and their arenas disagree.
 pub fn check_cells(cells: [Cell; 320], count: usize, value: &[u64], unknown: &[u64]) -> PlaceAnswer
     ensures { place_answer result
-        ≡ after (check_cells (lent_by value.entry unknown.entry) cells count) (given (word_behind (take count cells))) }
+        ≡ after (check_cells (lent_by value.now unknown.now) cells count) (given (word_behind (take count cells))) }
 {
     if (320 < count) | (value.len() != unknown.len()) {
         return PlaceAnswer::Refused(Refusal::BadStore);

@@ -36,7 +36,7 @@ pub fn cell_at<'a>(
     fills: &'a [bool; 320],
 ) -> Cell
     requires { i < 320 }
-    ensures { result ≡ cell_of (fields_by starts.entry widths.entry signs.entry fills.entry) i }
+    ensures { result ≡ cell_of (fields_by starts.now widths.now signs.now fills.now) i }
 {
     Cell {
         start: starts[i],
@@ -58,7 +58,7 @@ pub fn cell_words(c: Cell, arena: &[u64]) -> &[u64]
 // Whether a cell's span begins at word `at` and lies within the arenas, and the cell breaks none of 1, 3 and 4.
 pub fn cell_agrees(c: Cell, at: usize, value: &[u64], unknown: &[u64]) -> bool
     requires { (at ≤ length value.now) × (length value.now ≡ length unknown.now) }
-    ensures { result ≡ cell_agrees (lent_by value.entry unknown.entry) at c }
+    ensures { result ≡ cell_agrees (lent_by value.now unknown.now) at c }
 {
     let h = c.header;
     if (c.start != at) | (value.len() - at < word_count(h.width)) {
@@ -84,8 +84,8 @@ pub fn copy_behind(
 )
     requires n_in_bounds { (n ≤ length value.now) × (n ≤ length unknown.now) }
     requires n_in_bounds_2 { (at + n ≤ length av.old) × (at + n ≤ length au.old) }
-    ensures { lent_by av.exit au.exit
-        ≡ put_planes at (lent (take n value.now) (take n unknown.now)) (lent_by av.entry au.entry) }
+    ensures { lent_by av.new au.new
+        ≡ put_planes at (lent (take n value.now) (take n unknown.now)) (lent_by av.old au.old) }
 {
     copy_front(&mut av[at..], value, n);
     copy_front(&mut au[at..], unknown, n);

@@ -1,4 +1,6 @@
 // Whether two operands are equal, in one bit: equality, case, casez and casex equality, and wildcard equality.
+#![tactic(auto)]
+
 ghost use Rattle.std.specs.Prelude.{◌≡◌};
 ghost use Rattle.words.specs.Planes.{lent_by};
 ghost use Rattle.value.specs.Answers.{bit_answer};
@@ -22,7 +24,7 @@ pub fn compare_vectors(
     bu: &[u64],
 ) -> BitAnswer
     ensures { bit_answer result
-        ≡ comparison op a (lent_by av.entry au.entry) b (lent_by bv.entry bu.entry) }
+        ≡ comparison op a (lent_by av.now au.now) b (lent_by bv.now bu.now) }
 {
     match check_pair(a, av, au, b, bv, bu) {
         Verdict::Refused(r) => BitAnswer::Refused(r),
@@ -33,7 +35,7 @@ pub fn compare_vectors(
 // 0 if two known bits differ, else x on any unknown bit, else 1. Where either operand is a real, both count as reals.
 pub fn is_equal(a: Operand, av: &[u64], au: &[u64], b: Operand, bv: &[u64], bu: &[u64]) -> BitAnswer
     ensures { bit_answer result
-        ≡ is_equal a (lent_by av.entry au.entry) b (lent_by bv.entry bu.entry) }
+        ≡ is_equal a (lent_by av.now au.now) b (lent_by bv.now bu.now) }
 {
     match a {
         Operand::Vector(h) => match b {
@@ -47,7 +49,7 @@ pub fn is_equal(a: Operand, av: &[u64], au: &[u64], b: Operand, bv: &[u64], bu: 
 // 1 if the bit codes are the same at every place, else 0.
 pub fn case_eq(a: Header, av: &[u64], au: &[u64], b: Header, bv: &[u64], bu: &[u64]) -> BitAnswer
     ensures { bit_answer result
-        ≡ comparison CaseEqual a (lent_by av.entry au.entry) b (lent_by bv.entry bu.entry) }
+        ≡ comparison CaseEqual a (lent_by av.now au.now) b (lent_by bv.now bu.now) }
 {
     compare_vectors(Comparison::CaseEqual, a, av, au, b, bv, bu)
 }
@@ -55,7 +57,7 @@ pub fn case_eq(a: Header, av: &[u64], au: &[u64], b: Header, bv: &[u64], bu: &[u
 // As case equality, but places with z on either side are skipped.
 pub fn casez_eq(a: Header, av: &[u64], au: &[u64], b: Header, bv: &[u64], bu: &[u64]) -> BitAnswer
     ensures { bit_answer result
-        ≡ comparison CasezEqual a (lent_by av.entry au.entry) b (lent_by bv.entry bu.entry) }
+        ≡ comparison CasezEqual a (lent_by av.now au.now) b (lent_by bv.now bu.now) }
 {
     compare_vectors(Comparison::CasezEqual, a, av, au, b, bv, bu)
 }
@@ -63,7 +65,7 @@ pub fn casez_eq(a: Header, av: &[u64], au: &[u64], b: Header, bv: &[u64], bu: &[
 // As case equality, but places with x or z on either side are skipped.
 pub fn casex_eq(a: Header, av: &[u64], au: &[u64], b: Header, bv: &[u64], bu: &[u64]) -> BitAnswer
     ensures { bit_answer result
-        ≡ comparison CasexEqual a (lent_by av.entry au.entry) b (lent_by bv.entry bu.entry) }
+        ≡ comparison CasexEqual a (lent_by av.now au.now) b (lent_by bv.now bu.now) }
 {
     compare_vectors(Comparison::CasexEqual, a, av, au, b, bv, bu)
 }
@@ -78,7 +80,7 @@ pub fn wildcard_eq(
     bu: &[u64],
 ) -> BitAnswer
     ensures { bit_answer result
-        ≡ comparison WildcardEqual a (lent_by av.entry au.entry) b (lent_by bv.entry bu.entry) }
+        ≡ comparison WildcardEqual a (lent_by av.now au.now) b (lent_by bv.now bu.now) }
 {
     compare_vectors(Comparison::WildcardEqual, a, av, au, b, bv, bu)
 }

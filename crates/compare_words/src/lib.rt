@@ -1,4 +1,6 @@
 // The comparisons of two vectors, decided place by place in one scan.
+#![tactic(auto)]
+
 ghost use Rattle.std.specs.Prelude.{◌≡◌};
 ghost use Rattle.compare_words.specs.Compared.{found_bit};
 
@@ -7,7 +9,7 @@ use bit::LogicBit;
 pub mod unchecked;
 
 // How two vectors are compared, place by place.
-#[derive(Drop)]
+#[derive(Clone, Copy)]
 pub enum Comparison {
     Equal,
     CaseEqual,
@@ -17,7 +19,7 @@ pub enum Comparison {
 }
 
 // What a scan of two operands finds: the lowest place that mismatches; where none does, the lowest that leaves the answer open.
-#[derive(Drop)]
+#[derive(Clone, Copy)]
 pub enum Found {
     Mismatch(u32),
     Unsure(u32),

@@ -14,7 +14,7 @@ use words::Word;
 use words::unchecked::{kept, least, ones, operand_word};
 
 // The 64 places of a word of each operand: a one where they mismatch, and a one where an unknown bit leaves the answer in doubt.
-#[derive(Drop)]
+#[derive(Clone, Copy)]
 struct Marks {
     apart: u64,
     doubt: u64,
@@ -113,8 +113,8 @@ fn marks_at(
     requires n_bound { (n * 64 ≤ width) × ((n * 64 ≤ a.width) × (n * 64 ≤ b.width)) }
     ensures { result
         ≡ cut_marks width k
-        (marks_of op (word_at (extent_at a (lent_by av.entry au.entry)) k)
-        (word_at (extent_at b (lent_by bv.entry bu.entry)) k)) }
+        (marks_of op (word_at (extent_at a (lent_by av.now au.now)) k)
+        (word_at (extent_at b (lent_by bv.now bu.now)) k)) }
 {
     if k < n {
         let x = Word {
@@ -156,7 +156,7 @@ pub fn scan_extents(
     requires covers { Covers a (lent_by av au) × Covers b (lent_by bv bu) }
     requires width_le_width { (a.width ≤ width) × (b.width ≤ width) }
     ensures { result
-        ≡ found op (places_over width a (lent_by av.entry au.entry) b (lent_by bv.entry bu.entry)) }
+        ≡ found op (places_over width a (lent_by av.now au.now) b (lent_by bv.now bu.now)) }
 {
     let n = least(a.width as usize, b.width as usize) / 64;
     let count = words::word_count(width);
@@ -206,7 +206,7 @@ pub fn scan(
     requires plane { Plane a.width av.now × Plane a.width au.now }
     requires plane_2 { Plane b.width bv.now × Plane b.width bu.now }
     ensures { result
-        ≡ found op (places (vector a (lent_by av.entry au.entry)) (vector b (lent_by bv.entry bu.entry))) }
+        ≡ found op (places (vector a (lent_by av.now au.now)) (vector b (lent_by bv.now bu.now))) }
 {
     let x = extension::unchecked::extent(a, av, au, b);
     let y = extension::unchecked::extent(b, bv, bu, a);
@@ -227,7 +227,7 @@ pub fn compare(
     requires plane { Plane a.width av.now × Plane a.width au.now }
     requires plane_2 { Plane b.width bv.now × Plane b.width bu.now }
     ensures { result
-        ≡ compared op (vector a (lent_by av.entry au.entry)) (vector b (lent_by bv.entry bu.entry)) }
+        ≡ compared op (vector a (lent_by av.now au.now)) (vector b (lent_by bv.now bu.now)) }
 {
     crate::found_bit(scan(op, a, av, au, b, bv, bu))
 }

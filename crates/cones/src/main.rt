@@ -1,6 +1,8 @@
 // Runs the step list on standard input and writes what the run says. Where standard input cannot be read to its end, nothing is run and
 // standard output stays empty; where standard output does not take all that is written, the rest is lost. A line on standard error tells
 // either.
+#![tactic(auto)]
+
 ghost use Rattle.std.specs.Prelude.{◌≡◌, length};
 
 use libc::{STDERR_FILENO, STDOUT_FILENO};

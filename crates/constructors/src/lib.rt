@@ -1,4 +1,6 @@
 // The constructors of document 01: vectors of one bit throughout and of a number, at a clamped width.
+#![tactic(auto)]
+
 ghost use Rattle.std.specs.Prelude.{◌≡◌, ◌≤◌, [], ◌∷◌, get_or};
 ghost use Rattle.refusal.specs.Outcome.{outcome};
 ghost use Rattle.words.specs.Planes.{from_planes, lent_by};
@@ -26,9 +28,9 @@ fn construct(
     beyond: LogicBit,
 ) -> VectorAnswer
     requires { count ≤ 64 }
-    ensures { outcome (vector_answer result) (lent_by value.exit unknown.exit)
+    ensures { outcome (vector_answer result) (lent_by value.new unknown.new)
         ≡ constructed width (λ i. get_or (from_planes count (val ∷ []) (0 ∷ [])) i beyond)
-        (lent_by value.entry unknown.entry) }
+        (lent_by value.old unknown.old) }
 {
     let w = cap_width(width);
     match check_output(w, value, unknown) {
@@ -44,24 +46,24 @@ fn construct(
 
 // All x, at a clamped width.
 pub fn new(width: u32, value: &mut [u64], unknown: &mut [u64]) -> VectorAnswer
-    ensures { outcome (vector_answer result) (lent_by value.exit unknown.exit)
-        ≡ new_vector width (lent_by value.entry unknown.entry) }
+    ensures { outcome (vector_answer result) (lent_by value.new unknown.new)
+        ≡ new_vector width (lent_by value.old unknown.old) }
 {
     construct(width, value, unknown, 0, 0, LogicBit::X)
 }
 
 // All 0, at a clamped width.
 pub fn zero(width: u32, value: &mut [u64], unknown: &mut [u64]) -> VectorAnswer
-    ensures { outcome (vector_answer result) (lent_by value.exit unknown.exit)
-        ≡ zero_vector width (lent_by value.entry unknown.entry) }
+    ensures { outcome (vector_answer result) (lent_by value.new unknown.new)
+        ≡ zero_vector width (lent_by value.old unknown.old) }
 {
     construct(width, value, unknown, 0, 0, LogicBit::Zero)
 }
 
 // The bits of a number, at a clamped width.
 pub fn from_u64(val: u64, width: u32, value: &mut [u64], unknown: &mut [u64]) -> VectorAnswer
-    ensures { outcome (vector_answer result) (lent_by value.exit unknown.exit)
-        ≡ from_u64 val width (lent_by value.entry unknown.entry) }
+    ensures { outcome (vector_answer result) (lent_by value.new unknown.new)
+        ≡ from_u64 val width (lent_by value.old unknown.old) }
 {
     construct(width, value, unknown, val, 64, LogicBit::Zero)
 }

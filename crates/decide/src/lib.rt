@@ -1,4 +1,6 @@
 // Equality and wildcard equality that tell, beside the bit, which rule decided.
+#![tactic(auto)]
+
 ghost use Rattle.std.specs.Prelude.{◌≡◌};
 ghost use Rattle.words.specs.Planes.{lent_by};
 ghost use Rattle.value.specs.declared.Operand.TheVariants.{Vector};
@@ -15,7 +17,7 @@ use value::{BitAnswer, Header, Operand, check_pair};
 
 // The lowest place that holds two different known bits; if there is none, the lowest compared place that holds an unknown bit; if there is
 // none either, all compared places are equal. Numeric where an operand is a real.
-#[derive(Drop)]
+#[derive(Clone, Copy)]
 pub enum Rule {
     KnownMismatch(u32),
     Unknown(u32),
@@ -24,14 +26,14 @@ pub enum Rule {
 }
 
 // The bit of a comparison, and the rule that decided.
-#[derive(Drop)]
+#[derive(Clone, Copy)]
 pub struct Decision {
     pub bit: LogicBit,
     pub rule: Rule,
 }
 
 // A decision, or the refusal.
-#[derive(Drop)]
+#[derive(Clone, Copy)]
 pub enum DecisionAnswer {
     Decided(Decision),
     Refused(Refusal),
@@ -59,7 +61,7 @@ fn decide_scanned(
     bu: &[u64],
 ) -> DecisionAnswer
     ensures { decision_answer result
-        ≡ decide_scanned op a (lent_by av.entry au.entry) b (lent_by bv.entry bu.entry) }
+        ≡ decide_scanned op a (lent_by av.now au.now) b (lent_by bv.now bu.now) }
 {
     match check_pair(a, av, au, b, bv, bu) {
         Verdict::Refused(r) => DecisionAnswer::Refused(r),
@@ -96,7 +98,7 @@ pub fn decide_vectors(
     bu: &[u64],
 ) -> DecisionAnswer
     ensures { decision_answer result
-        ≡ decide_equal (Vector a) (lent_by av.entry au.entry) (Vector b) (lent_by bv.entry bu.entry) }
+        ≡ decide_equal (Vector a) (lent_by av.now au.now) (Vector b) (lent_by bv.now bu.now) }
 {
     decide_scanned(Comparison::Equal, a, av, au, b, bv, bu)
 }
@@ -111,7 +113,7 @@ pub fn decide_equal(
     bu: &[u64],
 ) -> DecisionAnswer
     ensures { decision_answer result
-        ≡ decide_equal a (lent_by av.entry au.entry) b (lent_by bv.entry bu.entry) }
+        ≡ decide_equal a (lent_by av.now au.now) b (lent_by bv.now bu.now) }
 {
     match a {
         Operand::Vector(h) => match b {
@@ -132,7 +134,7 @@ pub fn decide_wildcard(
     bu: &[u64],
 ) -> DecisionAnswer
     ensures { decision_answer result
-        ≡ decide_wildcard a (lent_by av.entry au.entry) b (lent_by bv.entry bu.entry) }
+        ≡ decide_wildcard a (lent_by av.now au.now) b (lent_by bv.now bu.now) }
 {
     decide_scanned(Comparison::WildcardEqual, a, av, au, b, bv, bu)
 }

@@ -1,5 +1,7 @@
 // The entries of documents 01 and 02 and their types in one list, which `fourstate` sorts by module. A crate that uses the crate `bit`
 // cannot have a module `bit`, so the list and the modules are two crates.
+#![tactic(auto)]
+
 pub use arm::chosen_arm;
 pub use bit::{LogicBit, and, from_code, merge, not, or, to_code, xor};
 pub use bitwise::{bitwise_and, bitwise_not, bitwise_or, bitwise_xor, merge_unknown};

@@ -1,6 +1,5 @@
 -- Document 01, "Cell store" and "Step list": a step works in two lent scratch planes, and its result is then copied behind the last filled cell.
 use Rattle.std.specs.Prelude.{◌≡◌, true, false, List, ℕ, ◌+◌, ◌≤◌, ◌<◌, length}
-use Rattle.std.specs.Borrow.{Bor}
 use Rattle.words.specs.Planes.{word_count, Planes, lent_by, planes_of}
 use Rattle.value.specs.Checks.{Vector}
 use Rattle.ops.specs.declared.Op.{Op}
@@ -20,8 +19,8 @@ pub record LentMemory : Type 0 where
   pub arenas : Planes
   pub scratch : Planes
 
--- by the references
-abbrev pub lent_memory_by : (av au sv su : Bor (List ℕ)) → LentMemory
+-- by what is lent
+abbrev pub lent_memory_by : (av au sv su : List ℕ) → LentMemory
 lent_memory_by av au sv su = record { arenas = lent_by av au; scratch = lent_by sv su }
 
 -- the cells that a planned step names, among those of f

@@ -56,7 +56,7 @@ fn answer(q: Question, a: Header, av: &[u64], au: &[u64], b: Header, bv: &[u64],
     requires plane { Plane a.width av.now × Plane a.width au.now }
     requires plane_2 { Plane b.width bv.now × Plane b.width bu.now }
     ensures { bit_of result 0
-        ≡ answer_bit q (vector a (lent_by av.entry au.entry)) (vector b (lent_by bv.entry bu.entry)) }
+        ≡ answer_bit q (vector a (lent_by av.now au.now)) (vector b (lent_by bv.now bu.now)) }
 {
     match q {
         Question::ReduceAnd => filled(and_bits(a.width, av, au)),
@@ -99,10 +99,10 @@ fn work(
     requires c_value { arms_refused op b c ≡ false }
     requires ov_len { (length ov.old ≡ word_count (op_header op a b c).width)
         × (length ou.old ≡ word_count (op_header op a b c).width) }
-    ensures { lent_by ov.exit ou.exit
+    ensures { lent_by ov.new ou.new
         ≡ planes_of
-        (op_bits op (vector a (lent_by av.entry au.entry)) (vector b (lent_by bv.entry bu.entry))
-        (vector c (lent_by cv.entry cu.entry)) pos) }
+        (op_bits op (vector a (lent_by av.now au.now)) (vector b (lent_by bv.now bu.now))
+        (vector c (lent_by cv.now cu.now)) pos) }
 {
     match ops::family_of(op) {
         Family::Join(j) => {
@@ -154,9 +154,9 @@ fn work_cells(
     requires header_value { arms_refused op o.b.header o.c.header ≡ false }
     requires h_value { h ≡ op_header op o.a.header o.b.header o.c.header }
     requires width_in_bounds { (word_count h.width ≤ length ov.old) × (word_count h.width ≤ length ou.old) }
-    ensures { lent_by ov.exit ou.exit
-        ≡ put_planes 0 (planes_of (op_cells op o pos (lent_by av.entry au.entry)).bits)
-        (lent_by ov.entry ou.entry) }
+    ensures { lent_by ov.new ou.new
+        ≡ put_planes 0 (planes_of (op_cells op o pos (lent_by av.now au.now)).bits)
+        (lent_by ov.old ou.old) }
 {
     let n = word_count(h.width);
     let xv = cell_words(o.a, av);
@@ -195,9 +195,9 @@ pub fn execute<'a>(
     su: &mut [u64],
 )
     requires { Executable p (fields_by starts widths signs fills) (lent_memory_by av au sv su) }
-    ensures { lent_memory_by av.exit au.exit sv.exit su.exit
-        ≡ executed p (fields_by starts.entry widths.entry signs.entry fills.entry)
-        (lent_memory_by av.entry au.entry sv.entry su.entry) }
+    ensures { lent_memory_by av.new au.new sv.new su.new
+        ≡ executed p (fields_by starts.now widths.now signs.now fills.now)
+        (lent_memory_by av.old au.old sv.old su.old) }
 {
     let o = Operands {
         a: cell_at(p.a, starts, widths, signs, fills),

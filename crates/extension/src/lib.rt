@@ -1,5 +1,7 @@
 // How and, or, xor, merge and the comparisons read each of their two operands: extended to the larger width, by the top bit where both are
 // signed, and a fill stretched.
+#![tactic(auto)]
+
 ghost use Rattle.std.specs.Prelude.{◌≡◌, max};
 ghost use Rattle.extension.specs.Extension.{both_signed};
 
@@ -9,7 +11,7 @@ use value::Header;
 pub mod unchecked;
 
 // An operand at any place: below the width its planes' bits, from there on the bit `beyond`.
-#[derive(Drop)]
+#[derive(Clone, Copy)]
 pub struct Extent {
     pub width: u32,
     pub beyond: LogicBit,

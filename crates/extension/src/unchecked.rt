@@ -11,7 +11,7 @@ use value::Header;
 // How the operand a is read beside one with the header b.
 pub fn extent(a: Header, value: &[u64], unknown: &[u64], b: Header) -> Extent
     requires { (length value.now ≡ word_count a.width) × (length unknown.now ≡ word_count a.width) }
-    ensures { result ≡ extent_of (vector a (lent_by value.entry unknown.entry)) b }
+    ensures { result ≡ extent_of (vector a (lent_by value.now unknown.now)) b }
 {
     let width = a.width;
     let by_top = crate::both_signed(a, b);

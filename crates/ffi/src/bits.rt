@@ -14,7 +14,7 @@ use words::Word;
 // `planes::get`
 #[unsafe(no_mangle)]
 pub extern "C" fn vowherunga_get(width: u32, value: &[u64], unknown: &[u64], i: usize) -> BitResult
-    ensures { result ≡ coded_bit (get_bit width (lent_by value.entry unknown.entry) i) }
+    ensures { result ≡ coded_bit (get_bit width (lent_by value.now unknown.now) i) }
 {
     bit_result(planes::get(width, value, unknown, i))
 }
@@ -28,8 +28,8 @@ pub extern "C" fn vowherunga_set(
     i: usize,
     bit: u8,
 ) -> u8
-    ensures { coded result (lent_by value.exit unknown.exit)
-        ≡ coded_outcome coded_done (set_bit width (lent_by value.entry unknown.entry) i (of_code bit)) }
+    ensures { coded result (lent_by value.new unknown.new)
+        ≡ coded_outcome coded_done (set_bit width (lent_by value.old unknown.old) i (of_code bit)) }
 {
     done(planes::set(width, value, unknown, i, bit::from_code(bit)))
 }
@@ -45,9 +45,9 @@ pub extern "C" fn vowherunga_splice64(
     bits_unknown: u64,
     n: usize,
 ) -> u8
-    ensures { coded result (lent_by value.exit unknown.exit)
+    ensures { coded result (lent_by value.new unknown.new)
         ≡ coded_outcome coded_done
-        (splice_bits width (lent_by value.entry unknown.entry) pos
+        (splice_bits width (lent_by value.old unknown.old) pos
         (record { value = bits_value; unknown = bits_unknown }) n) }
 {
     let bits = Word {
@@ -66,7 +66,7 @@ pub extern "C" fn vowherunga_extract64(
     pos: usize,
     n: usize,
 ) -> WordResult
-    ensures { result ≡ coded_word (extract_bits width (lent_by value.entry unknown.entry) pos n) }
+    ensures { result ≡ coded_word (extract_bits width (lent_by value.now unknown.now) pos n) }
 {
     word_result(planes::extract64(width, value, unknown, pos, n))
 }
@@ -74,8 +74,8 @@ pub extern "C" fn vowherunga_extract64(
 // `planes::mask_top`
 #[unsafe(no_mangle)]
 pub extern "C" fn vowherunga_mask_top(width: u32, value: &mut [u64], unknown: &mut [u64]) -> u8
-    ensures { coded result (lent_by value.exit unknown.exit)
-        ≡ coded_outcome coded_done (mask_top width (lent_by value.entry unknown.entry)) }
+    ensures { coded result (lent_by value.new unknown.new)
+        ≡ coded_outcome coded_done (mask_top width (lent_by value.old unknown.old)) }
 {
     done(planes::mask_top(width, value, unknown))
 }
@@ -83,7 +83,7 @@ pub extern "C" fn vowherunga_mask_top(width: u32, value: &mut [u64], unknown: &m
 // `value::check_vector`
 #[unsafe(no_mangle)]
 pub extern "C" fn vowherunga_check_vector(h: Header, value: &[u64], unknown: &[u64]) -> u8
-    ensures { result ≡ coded_done (check_vector h (lent_by value.entry unknown.entry)) }
+    ensures { result ≡ coded_done (check_vector h (lent_by value.now unknown.now)) }
 {
     done(value::check_vector(h, value, unknown))
 }
@@ -91,8 +91,8 @@ pub extern "C" fn vowherunga_check_vector(h: Header, value: &[u64], unknown: &[u
 // `constructors::new`
 #[unsafe(no_mangle)]
 pub extern "C" fn vowherunga_new(width: u32, value: &mut [u64], unknown: &mut [u64]) -> HeaderResult
-    ensures { coded result (lent_by value.exit unknown.exit)
-        ≡ coded_outcome coded_header (new_vector width (lent_by value.entry unknown.entry)) }
+    ensures { coded result (lent_by value.new unknown.new)
+        ≡ coded_outcome coded_header (new_vector width (lent_by value.old unknown.old)) }
 {
     header_result(constructors::new(width, value, unknown))
 }
@@ -104,8 +104,8 @@ pub extern "C" fn vowherunga_zero(
     value: &mut [u64],
     unknown: &mut [u64],
 ) -> HeaderResult
-    ensures { coded result (lent_by value.exit unknown.exit)
-        ≡ coded_outcome coded_header (zero_vector width (lent_by value.entry unknown.entry)) }
+    ensures { coded result (lent_by value.new unknown.new)
+        ≡ coded_outcome coded_header (zero_vector width (lent_by value.old unknown.old)) }
 {
     header_result(constructors::zero(width, value, unknown))
 }
@@ -118,8 +118,8 @@ pub extern "C" fn vowherunga_from_u64(
     value: &mut [u64],
     unknown: &mut [u64],
 ) -> HeaderResult
-    ensures { coded result (lent_by value.exit unknown.exit)
-        ≡ coded_outcome coded_header (from_u64 val width (lent_by value.entry unknown.entry)) }
+    ensures { coded result (lent_by value.new unknown.new)
+        ≡ coded_outcome coded_header (from_u64 val width (lent_by value.old unknown.old)) }
 {
     header_result(constructors::from_u64(val, width, value, unknown))
 }

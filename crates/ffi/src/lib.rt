@@ -1,4 +1,6 @@
 // The entries that read bits or write planes, for C and Rust, as numbers and slices; the crate `abi` says how an answer becomes numbers.
 // Each export asks nothing of its caller and does nothing but call its entry.
+#![tactic(auto)]
+
 pub mod bits;
 pub mod vectors;

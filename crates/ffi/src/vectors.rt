@@ -23,9 +23,9 @@ pub extern "C" fn vowherunga_bitwise_and(
     ov: &mut [u64],
     ou: &mut [u64],
 ) -> HeaderResult
-    ensures { coded result (lent_by ov.exit ou.exit)
+    ensures { coded result (lent_by ov.new ou.new)
         ≡ coded_outcome coded_header
-        (join_vectors And a (lent_by av.entry au.entry) b (lent_by bv.entry bu.entry) (lent_by ov.entry ou.entry)) }
+        (join_vectors And a (lent_by av.now au.now) b (lent_by bv.now bu.now) (lent_by ov.old ou.old)) }
 {
     header_result(bitwise::bitwise_and(a, av, au, b, bv, bu, ov, ou))
 }
@@ -42,9 +42,9 @@ pub extern "C" fn vowherunga_bitwise_or(
     ov: &mut [u64],
     ou: &mut [u64],
 ) -> HeaderResult
-    ensures { coded result (lent_by ov.exit ou.exit)
+    ensures { coded result (lent_by ov.new ou.new)
         ≡ coded_outcome coded_header
-        (join_vectors Or a (lent_by av.entry au.entry) b (lent_by bv.entry bu.entry) (lent_by ov.entry ou.entry)) }
+        (join_vectors Or a (lent_by av.now au.now) b (lent_by bv.now bu.now) (lent_by ov.old ou.old)) }
 {
     header_result(bitwise::bitwise_or(a, av, au, b, bv, bu, ov, ou))
 }
@@ -61,9 +61,9 @@ pub extern "C" fn vowherunga_bitwise_xor(
     ov: &mut [u64],
     ou: &mut [u64],
 ) -> HeaderResult
-    ensures { coded result (lent_by ov.exit ou.exit)
+    ensures { coded result (lent_by ov.new ou.new)
         ≡ coded_outcome coded_header
-        (join_vectors Xor a (lent_by av.entry au.entry) b (lent_by bv.entry bu.entry) (lent_by ov.entry ou.entry)) }
+        (join_vectors Xor a (lent_by av.now au.now) b (lent_by bv.now bu.now) (lent_by ov.old ou.old)) }
 {
     header_result(bitwise::bitwise_xor(a, av, au, b, bv, bu, ov, ou))
 }
@@ -80,9 +80,9 @@ pub extern "C" fn vowherunga_merge_unknown(
     ov: &mut [u64],
     ou: &mut [u64],
 ) -> HeaderResult
-    ensures { coded result (lent_by ov.exit ou.exit)
+    ensures { coded result (lent_by ov.new ou.new)
         ≡ coded_outcome coded_header
-        (join_vectors Merge a (lent_by av.entry au.entry) b (lent_by bv.entry bu.entry) (lent_by ov.entry ou.entry)) }
+        (join_vectors Merge a (lent_by av.now au.now) b (lent_by bv.now bu.now) (lent_by ov.old ou.old)) }
 {
     header_result(bitwise::merge_unknown(a, av, au, b, bv, bu, ov, ou))
 }
@@ -96,8 +96,8 @@ pub extern "C" fn vowherunga_bitwise_not(
     ov: &mut [u64],
     ou: &mut [u64],
 ) -> HeaderResult
-    ensures { coded result (lent_by ov.exit ou.exit)
-        ≡ coded_outcome coded_header (bitwise_not a (lent_by av.entry au.entry) (lent_by ov.entry ou.entry)) }
+    ensures { coded result (lent_by ov.new ou.new)
+        ≡ coded_outcome coded_header (bitwise_not a (lent_by av.now au.now) (lent_by ov.old ou.old)) }
 {
     header_result(bitwise::bitwise_not(a, av, au, ov, ou))
 }
@@ -113,9 +113,9 @@ pub extern "C" fn vowherunga_splice_bits64(
     bits_unknown: u64,
     n: usize,
 ) -> BitResult
-    ensures { coded result (lent_by value.exit unknown.exit)
+    ensures { coded result (lent_by value.new unknown.new)
         ≡ coded_outcome coded_change
-        (insert_bits a (lent_by value.entry unknown.entry) pos (record { value = bits_value; unknown = bits_unknown }) n) }
+        (insert_bits a (lent_by value.old unknown.old) pos (record { value = bits_value; unknown = bits_unknown }) n) }
 {
     let bits = Word {
         value: bits_value,
@@ -132,8 +132,8 @@ pub extern "C" fn vowherunga_from_real_wrapped(
     value: &mut [u64],
     unknown: &mut [u64],
 ) -> HeaderResult
-    ensures { coded result (lent_by value.exit unknown.exit)
-        ≡ coded_outcome coded_header (from_real f width (lent_by value.entry unknown.entry)) }
+    ensures { coded result (lent_by value.new unknown.new)
+        ≡ coded_outcome coded_header (from_real f width (lent_by value.old unknown.old)) }
 {
     header_result(real::from_real_wrapped(f, width, value, unknown))
 }

@@ -1,5 +1,7 @@
 // The operators whose answer is a bit, for C and Rust: the answer is the bit's code, or a refusal. Each export asks nothing of its caller
 // and does nothing but call its entry.
+#![tactic(auto)]
+
 ghost use Rattle.std.specs.Prelude.{◌≡◌};
 ghost use Rattle.words.specs.Planes.{lent_by};
 ghost use Rattle.value.specs.declared.Operand.TheVariants.{Vector};
@@ -18,7 +20,7 @@ use value::Header;
 // `reduce::reduce_and`
 #[unsafe(no_mangle)]
 pub extern "C" fn vowherunga_reduce_and(a: Header, value: &[u64], unknown: &[u64]) -> BitResult
-    ensures { result ≡ coded_bit (reduction reduce_and a (lent_by value.entry unknown.entry)) }
+    ensures { result ≡ coded_bit (reduction reduce_and a (lent_by value.now unknown.now)) }
 {
     bit_result(reduce::reduce_and(a, value, unknown))
 }
@@ -26,7 +28,7 @@ pub extern "C" fn vowherunga_reduce_and(a: Header, value: &[u64], unknown: &[u64
 // `reduce::reduce_or`
 #[unsafe(no_mangle)]
 pub extern "C" fn vowherunga_reduce_or(a: Header, value: &[u64], unknown: &[u64]) -> BitResult
-    ensures { result ≡ coded_bit (reduction reduce_or a (lent_by value.entry unknown.entry)) }
+    ensures { result ≡ coded_bit (reduction reduce_or a (lent_by value.now unknown.now)) }
 {
     bit_result(reduce::reduce_or(a, value, unknown))
 }
@@ -34,7 +36,7 @@ pub extern "C" fn vowherunga_reduce_or(a: Header, value: &[u64], unknown: &[u64]
 // `reduce::reduce_xor`
 #[unsafe(no_mangle)]
 pub extern "C" fn vowherunga_reduce_xor(a: Header, value: &[u64], unknown: &[u64]) -> BitResult
-    ensures { result ≡ coded_bit (reduction reduce_xor a (lent_by value.entry unknown.entry)) }
+    ensures { result ≡ coded_bit (reduction reduce_xor a (lent_by value.now unknown.now)) }
 {
     bit_result(reduce::reduce_xor(a, value, unknown))
 }
@@ -49,7 +51,7 @@ pub extern "C" fn vowherunga_is_nonzero(
     unknown: &[u64],
 ) -> BitResult
     ensures { result
-        ≡ coded_truth (is_nonzero (operand_of a_is_real a a_real) (lent_by value.entry unknown.entry)) }
+        ≡ coded_truth (is_nonzero (operand_of a_is_real a a_real) (lent_by value.now unknown.now)) }
 {
     let o = operand(a_is_real, a, a_real);
     truth_result(truth::is_nonzero(o, value, unknown))
@@ -71,8 +73,8 @@ pub extern "C" fn vowherunga_logic_and(
 ) -> BitResult
     ensures { result
         ≡ coded_bit
-        (logic_and (operand_of a_is_real a a_real) (lent_by av.entry au.entry)
-        (operand_of b_is_real b b_real) (lent_by bv.entry bu.entry)) }
+        (logic_and (operand_of a_is_real a a_real) (lent_by av.now au.now)
+        (operand_of b_is_real b b_real) (lent_by bv.now bu.now)) }
 {
     let x = operand(a_is_real, a, a_real);
     let y = operand(b_is_real, b, b_real);
@@ -95,8 +97,8 @@ pub extern "C" fn vowherunga_logic_or(
 ) -> BitResult
     ensures { result
         ≡ coded_bit
-        (logic_or (operand_of a_is_real a a_real) (lent_by av.entry au.entry)
-        (operand_of b_is_real b b_real) (lent_by bv.entry bu.entry)) }
+        (logic_or (operand_of a_is_real a a_real) (lent_by av.now au.now)
+        (operand_of b_is_real b b_real) (lent_by bv.now bu.now)) }
 {
     let x = operand(a_is_real, a, a_real);
     let y = operand(b_is_real, b, b_real);
@@ -119,8 +121,8 @@ pub extern "C" fn vowherunga_is_equal(
 ) -> BitResult
     ensures { result
         ≡ coded_bit
-        (is_equal (operand_of a_is_real a a_real) (lent_by av.entry au.entry)
-        (operand_of b_is_real b b_real) (lent_by bv.entry bu.entry)) }
+        (is_equal (operand_of a_is_real a a_real) (lent_by av.now au.now)
+        (operand_of b_is_real b b_real) (lent_by bv.now bu.now)) }
 {
     let x = operand(a_is_real, a, a_real);
     let y = operand(b_is_real, b, b_real);
@@ -138,7 +140,7 @@ pub extern "C" fn vowherunga_equal_vectors(
     bu: &[u64],
 ) -> BitResult
     ensures { result
-        ≡ coded_bit (is_equal (Vector a) (lent_by av.entry au.entry) (Vector b) (lent_by bv.entry bu.entry)) }
+        ≡ coded_bit (is_equal (Vector a) (lent_by av.now au.now) (Vector b) (lent_by bv.now bu.now)) }
 {
     bit_result(compare::compare_vectors(Comparison::Equal, a, av, au, b, bv, bu))
 }
@@ -154,7 +156,7 @@ pub extern "C" fn vowherunga_case_eq(
     bu: &[u64],
 ) -> BitResult
     ensures { result
-        ≡ coded_bit (comparison CaseEqual a (lent_by av.entry au.entry) b (lent_by bv.entry bu.entry)) }
+        ≡ coded_bit (comparison CaseEqual a (lent_by av.now au.now) b (lent_by bv.now bu.now)) }
 {
     bit_result(compare::case_eq(a, av, au, b, bv, bu))
 }
@@ -170,7 +172,7 @@ pub extern "C" fn vowherunga_casez_eq(
     bu: &[u64],
 ) -> BitResult
     ensures { result
-        ≡ coded_bit (comparison CasezEqual a (lent_by av.entry au.entry) b (lent_by bv.entry bu.entry)) }
+        ≡ coded_bit (comparison CasezEqual a (lent_by av.now au.now) b (lent_by bv.now bu.now)) }
 {
     bit_result(compare::casez_eq(a, av, au, b, bv, bu))
 }
@@ -186,7 +188,7 @@ pub extern "C" fn vowherunga_casex_eq(
     bu: &[u64],
 ) -> BitResult
     ensures { result
-        ≡ coded_bit (comparison CasexEqual a (lent_by av.entry au.entry) b (lent_by bv.entry bu.entry)) }
+        ≡ coded_bit (comparison CasexEqual a (lent_by av.now au.now) b (lent_by bv.now bu.now)) }
 {
     bit_result(compare::casex_eq(a, av, au, b, bv, bu))
 }
@@ -202,7 +204,7 @@ pub extern "C" fn vowherunga_wildcard_eq(
     bu: &[u64],
 ) -> BitResult
     ensures { result
-        ≡ coded_bit (comparison WildcardEqual a (lent_by av.entry au.entry) b (lent_by bv.entry bu.entry)) }
+        ≡ coded_bit (comparison WildcardEqual a (lent_by av.now au.now) b (lent_by bv.now bu.now)) }
 {
     bit_result(compare::wildcard_eq(a, av, au, b, bv, bu))
 }

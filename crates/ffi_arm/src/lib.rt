@@ -1,5 +1,7 @@
 // The arm that a condition picks, for C and Rust. An export returns no slice: the answer tells which arm it is and how many words of it,
 // from its beginning on. The export asks nothing of its caller.
+#![tactic(auto)]
+
 ghost use Rattle.std.specs.Prelude.{◌≡◌};
 ghost use Rattle.arm.specs.Arm.{part_of};
 ghost use Rattle.ffi_arm.specs.Told.{truth_of_code, picks_second, told_arm};
@@ -9,7 +11,7 @@ use bit::{LogicBit, from_code};
 use reduce_words::Truth;
 
 #[repr(C)]
-#[derive(Drop)]
+#[derive(Clone, Copy)]
 pub struct ArmResult {
     pub is_second: bool,
     pub length: usize,

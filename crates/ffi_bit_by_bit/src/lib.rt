@@ -1,5 +1,7 @@
 // Not and truth of a vector, worked out bit by bit by the single-bit rules, for C and Rust: proved against the definitions of the word
 // forms, for the benchmark and the test that hold both forms beside each other. Each export asks nothing of its caller.
+#![tactic(auto)]
+
 ghost use Rattle.std.specs.Prelude.{◌≡◌, ◌<◌, length};
 ghost use Rattle.refusal.specs.Outcome.{outcome};
 ghost use Rattle.words.specs.Vector.{at};
@@ -46,7 +48,7 @@ fn not_word(width: u32, av: &[u64], au: &[u64], k: usize) -> Word
 fn not_bits(width: u32, av: &[u64], au: &[u64], ov: &mut [u64], ou: &mut [u64])
     requires av_len { (length av.now ≡ word_count width) × (length au.now ≡ word_count width) }
     requires ov_len { (length ov.old ≡ word_count width) × (length ou.old ≡ word_count width) }
-    ensures { lent_by ov.exit ou.exit
+    ensures { lent_by ov.new ou.new
         ≡ planes_of (inverted (from_planes width av.now au.now)) }
 {
     let mut k = 0;
@@ -60,8 +62,8 @@ fn not_bits(width: u32, av: &[u64], au: &[u64], ov: &mut [u64], ou: &mut [u64])
 
 // Not, refused as `bitwise::bitwise_not` refuses.
 fn not_vector(a: Header, av: &[u64], au: &[u64], ov: &mut [u64], ou: &mut [u64]) -> VectorAnswer
-    ensures { outcome (vector_answer result) (lent_by ov.exit ou.exit)
-        ≡ bitwise_not a (lent_by av.entry au.entry) (lent_by ov.entry ou.entry) }
+    ensures { outcome (vector_answer result) (lent_by ov.new ou.new)
+        ≡ bitwise_not a (lent_by av.now au.now) (lent_by ov.old ou.old) }
 {
     let width = a.width;
     match check_vector(a, av, au) {
@@ -104,7 +106,7 @@ fn truth_bits(width: u32, value: &[u64], unknown: &[u64]) -> Truth
 
 // The truth of a vector, refused as `truth::is_nonzero` refuses.
 fn truth_vector(a: Header, value: &[u64], unknown: &[u64]) -> TruthAnswer
-    ensures { truth_answer result ≡ is_nonzero (Vector a) (lent_by value.entry unknown.entry) }
+    ensures { truth_answer result ≡ is_nonzero (Vector a) (lent_by value.now unknown.now) }
 {
     let width = a.width;
     match check_vector(a, value, unknown) {
@@ -122,8 +124,8 @@ pub extern "C" fn bit_by_bit_not(
     ov: &mut [u64],
     ou: &mut [u64],
 ) -> HeaderResult
-    ensures { coded result (lent_by ov.exit ou.exit)
-        ≡ coded_outcome coded_header (bitwise_not a (lent_by av.entry au.entry) (lent_by ov.entry ou.entry)) }
+    ensures { coded result (lent_by ov.new ou.new)
+        ≡ coded_outcome coded_header (bitwise_not a (lent_by av.now au.now) (lent_by ov.old ou.old)) }
 {
     header_result(not_vector(a, av, au, ov, ou))
 }
@@ -131,7 +133,7 @@ pub extern "C" fn bit_by_bit_not(
 // Truth, bit by bit: the equation of `ffi_answers::vowherunga_is_nonzero` for a vector; 0 false, 1 true, 2 unknown.
 #[unsafe(no_mangle)]
 pub extern "C" fn bit_by_bit_truth(a: Header, value: &[u64], unknown: &[u64]) -> BitResult
-    ensures { result ≡ coded_truth (is_nonzero (Vector a) (lent_by value.entry unknown.entry)) }
+    ensures { result ≡ coded_truth (is_nonzero (Vector a) (lent_by value.now unknown.now)) }
 {
     truth_result(truth_vector(a, value, unknown))
 }

@@ -1,6 +1,8 @@
 // Equality that tells which rule decided, for C and Rust: the answer is the bit's code, the rule's number and its place, or a refusal. The
 // export asks nothing of its caller and does nothing but call its entry. Each comparison that tells its rule has a static library of its
 // own: there its scan is compiled for it alone.
+#![tactic(auto)]
+
 ghost use Rattle.std.specs.Prelude.{◌≡◌};
 ghost use Rattle.words.specs.Planes.{lent_by};
 ghost use Rattle.decide.specs.Decide.{decide_equal};
@@ -25,8 +27,8 @@ pub extern "C" fn vowherunga_decide_equal(
 ) -> DecisionResult
     ensures { result
         ≡ coded_decision
-        (decide_equal (operand_of a_is_real a a_real) (lent_by av.entry au.entry)
-        (operand_of b_is_real b b_real) (lent_by bv.entry bu.entry)) }
+        (decide_equal (operand_of a_is_real a a_real) (lent_by av.now au.now)
+        (operand_of b_is_real b b_real) (lent_by bv.now bu.now)) }
 {
     let x = operand(a_is_real, a, a_real);
     let y = operand(b_is_real, b, b_real);

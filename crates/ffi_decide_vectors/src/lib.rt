@@ -1,4 +1,6 @@
 // Equality of two vectors that tells which rule decided, for C and Rust, as `ffi_decide` has equality.
+#![tactic(auto)]
+
 ghost use Rattle.std.specs.Prelude.{◌≡◌};
 ghost use Rattle.words.specs.Planes.{lent_by};
 ghost use Rattle.value.specs.declared.Operand.TheVariants.{Vector};
@@ -20,7 +22,7 @@ pub extern "C" fn vowherunga_decide_equal_vectors(
 ) -> DecisionResult
     ensures { result
         ≡ coded_decision
-        (decide_equal (Vector a) (lent_by av.entry au.entry) (Vector b) (lent_by bv.entry bu.entry)) }
+        (decide_equal (Vector a) (lent_by av.now au.now) (Vector b) (lent_by bv.now bu.now)) }
 {
     decision_result(decide::decide_vectors(a, av, au, b, bv, bu))
 }

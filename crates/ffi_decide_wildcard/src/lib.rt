@@ -1,4 +1,6 @@
 // Wildcard equality that tells which rule decided, for C and Rust, as `ffi_decide` has equality.
+#![tactic(auto)]
+
 ghost use Rattle.std.specs.Prelude.{◌≡◌};
 ghost use Rattle.words.specs.Planes.{lent_by};
 ghost use Rattle.decide.specs.Decide.{decide_wildcard};
@@ -18,7 +20,7 @@ pub extern "C" fn vowherunga_decide_wildcard(
     bu: &[u64],
 ) -> DecisionResult
     ensures { result
-        ≡ coded_decision (decide_wildcard a (lent_by av.entry au.entry) b (lent_by bv.entry bu.entry)) }
+        ≡ coded_decision (decide_wildcard a (lent_by av.now au.now) b (lent_by bv.now bu.now)) }
 {
     decision_result(decide::decide_wildcard(a, av, au, b, bv, bu))
 }

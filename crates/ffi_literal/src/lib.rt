@@ -1,5 +1,7 @@
 // Sized literals for C and Rust, as numbers and slices; the crate `abi` says how an answer becomes numbers. Each export asks nothing of its
 // caller and does nothing but call its entry.
+#![tactic(auto)]
+
 ghost use Rattle.std.specs.Prelude.{◌≡◌};
 ghost use Rattle.words.specs.Planes.{lent_by};
 ghost use Rattle.literal_read.specs.Literal.{literal_header, read_literal};
@@ -26,8 +28,8 @@ pub extern "C" fn vowherunga_read_literal(
     ov: &mut [u64],
     ou: &mut [u64],
 ) -> HeaderResult
-    ensures { coded result (lent_by ov.exit ou.exit)
-        ≡ coded_outcome coded_header (read_literal text.now (lent_by ov.entry ou.entry)) }
+    ensures { coded result (lent_by ov.new ou.new)
+        ≡ coded_outcome coded_header (read_literal text.now (lent_by ov.old ou.old)) }
 {
     header_result(literal_read::read_literal(text, ov, ou))
 }
@@ -49,7 +51,7 @@ pub extern "C" fn vowherunga_write_literal(
     text: &mut [u8],
 ) -> u8
     ensures { coded result text.new
-        ≡ coded_outcome coded_done (write_literal h (lent_by value.entry unknown.entry) text.old) }
+        ≡ coded_outcome coded_done (write_literal h (lent_by value.now unknown.now) text.old) }
 {
     text_done(literal_write::write_literal(h, value, unknown, text))
 }

@@ -1,5 +1,7 @@
 // The run of a step list for C and Rust, as numbers, slices and arrays: the store that it leaves crosses as its number of cells and four
 // arrays of 320 places. The export asks nothing of its caller.
+#![tactic(auto)]
+
 ghost use Rattle.std.specs.Prelude.{◌≡◌};
 ghost use Rattle.words.specs.Planes.{lent_by};
 ghost use Rattle.lines.specs.Buffer.{buffer};
@@ -39,8 +41,8 @@ fn save_run(
     signs: &mut [bool; 320],
     fills: &mut [bool; 320],
 )
-    ensures { fields_by starts.exit widths.exit signs.exit fills.exit
-        ≡ saved_fields (ending_of r.ending) r.store (fields_by starts.entry widths.entry signs.entry fills.entry) }
+    ensures { fields_by starts.new widths.new signs.new fills.new
+        ≡ saved_fields (ending_of r.ending) r.store (fields_by starts.old widths.old signs.old fills.old) }
 {
     let e = r.ending;
     if end_number(e) == 6 {
@@ -52,7 +54,7 @@ fn save_run(
 // The cells in the store after a run, the bytes that it wrote at the front of the buffer, and how it ended: `refusal` is 0 where every step
 // was run, and then `step` is how many; else it is the refusal's number, and `step` its step, 0 for the text or an input.
 #[repr(C)]
-#[derive(Drop)]
+#[derive(Clone, Copy)]
 pub struct RunResult {
     pub count: usize,
     pub length: usize,
@@ -74,16 +76,16 @@ pub extern "C" fn vowherunga_run(
     fills: &mut [bool; 320],
     out: &mut [u8; 1052436],
 ) -> RunResult
-    ensures { crossed (settled result (fields_by starts.exit widths.exit signs.exit fills.exit)) (
-      lent_by arena_value.exit arena_unknown.exit,
-      lent_by scratch_value.exit scratch_unknown.exit,
+    ensures { crossed (settled result (fields_by starts.new widths.new signs.new fills.new)) (
+      lent_by arena_value.new arena_unknown.new,
+      lent_by scratch_value.new scratch_unknown.new,
       out.new,
     )
-        ≡ crossed_run (fields_by starts.entry widths.entry signs.entry fills.entry)
+        ≡ crossed_run (fields_by starts.old widths.old signs.old fills.old)
         (final_of
         (run_text
-        (lent_by arena_value.entry arena_unknown.entry)
-        (lent_by scratch_value.entry scratch_unknown.entry)
+        (lent_by arena_value.old arena_unknown.old)
+        (lent_by scratch_value.old scratch_unknown.old)
         text.now)
         (buffer out.old 0)) }
 {

@@ -1,5 +1,7 @@
 // The calls of the cell store for C and Rust, as numbers, slices and arrays: a store crosses as its number of cells and four arrays of 320
 // places. Each export asks nothing of its caller, and a refusal changes nothing.
+#![tactic(auto)]
+
 ghost use Rattle.std.specs.Prelude.{◌≡◌};
 ghost use Rattle.words.specs.Planes.{lent_by};
 ghost use Rattle.ops.specs.Names.{op_of};
@@ -28,13 +30,13 @@ pub extern "C" fn vowherunga_add_input(
     arena_value: &mut [u64],
     arena_unknown: &mut [u64],
 ) -> CellResult
-    ensures { crossed (settled result (fields_by starts.exit widths.exit signs.exit fills.exit))
-        (lent_by arena_value.exit arena_unknown.exit)
-        ≡ crossed_input (fields_by starts.entry widths.entry signs.entry fills.entry)
+    ensures { crossed (settled result (fields_by starts.new widths.new signs.new fills.new))
+        (lent_by arena_value.new arena_unknown.new)
+        ≡ crossed_input (fields_by starts.old widths.old signs.old fills.old)
         (add_input
-        (state_by (store_by count starts.entry widths.entry signs.entry fills.entry)
-        arena_value.entry arena_unknown.entry)
-        h (lent_by value.entry unknown.entry)) }
+        (state_by (store_by count starts.old widths.old signs.old fills.old)
+        arena_value.old arena_unknown.old)
+        h (lent_by value.now unknown.now)) }
 {
     let s = store_of(count, starts, widths, signs, fills);
     let r = s.add_input(h, value, unknown, arena_value, arena_unknown);
@@ -59,12 +61,12 @@ pub extern "C" fn vowherunga_add_step(
     scratch_value: &mut [u64],
     scratch_unknown: &mut [u64],
 ) -> CellResult
-    ensures { crossed (settled result (fields_by starts.exit widths.exit signs.exit fills.exit))
-        (lent_by arena_value.exit arena_unknown.exit, lent_by scratch_value.exit scratch_unknown.exit)
-        ≡ crossed_step (fields_by starts.entry widths.entry signs.entry fills.entry)
+    ensures { crossed (settled result (fields_by starts.new widths.new signs.new fills.new))
+        (lent_by arena_value.new arena_unknown.new, lent_by scratch_value.new scratch_unknown.new)
+        ≡ crossed_step (fields_by starts.old widths.old signs.old fills.old)
         (add_step_of (op_of op) a b c
-        (memory_by (store_by count starts.entry widths.entry signs.entry fills.entry)
-        arena_value.entry arena_unknown.entry scratch_value.entry scratch_unknown.entry)) }
+        (memory_by (store_by count starts.old widths.old signs.old fills.old)
+        arena_value.old arena_unknown.old scratch_value.old scratch_unknown.old)) }
 {
     match op_of(op) {
         OpAnswer::NoOp => CellResult {

@@ -1,5 +1,7 @@
 // The word forms for C and Rust, for vectors of at most 64 bits: a word of each plane in, a pair of words or the code of a bit out. Each
 // export asks nothing of its caller and does nothing but call its form.
+#![tactic(auto)]
+
 ghost use Rattle.std.specs.Prelude.{◌≡◌, min};
 ghost use Rattle.bit.specs.Rules.{code};
 ghost use Rattle.words.specs.Planes.{vector_of, planes_of};

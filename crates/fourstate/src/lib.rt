@@ -2,6 +2,7 @@
 // takes whatever it is handed, and gives its result or one refusal, which leaves what it found. Contracts and the fields of types stand in
 // the crates that `entries` names. A crate that calls an entry also lists in crates.txt the crates that declare the types of its arguments
 // and its answer.
+#![tactic(auto)]
 
 // A four-state bit and the single-bit rules.
 pub mod bit {

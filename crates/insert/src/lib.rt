@@ -1,4 +1,6 @@
 // Insert: bits of a word put into a vector in place.
+#![tactic(auto)]
+
 ghost use Rattle.std.specs.Prelude.{◌≡◌};
 ghost use Rattle.refusal.specs.Outcome.{outcome};
 ghost use Rattle.words.specs.Planes.{lent_by};
@@ -11,7 +13,7 @@ use words::Word;
 pub mod unchecked;
 
 // Whether an insert changed a bit.
-#[derive(Drop)]
+#[derive(Clone, Copy)]
 pub enum ChangeAnswer {
     Changed(bool),
     Refused(Refusal),
@@ -26,8 +28,8 @@ pub fn splice_bits64(
     bits: Word,
     n: usize,
 ) -> ChangeAnswer
-    ensures { outcome (change_answer result) (lent_by value.exit unknown.exit)
-        ≡ insert_bits a (lent_by value.entry unknown.entry) pos bits n }
+    ensures { outcome (change_answer result) (lent_by value.new unknown.new)
+        ≡ insert_bits a (lent_by value.old unknown.old) pos bits n }
 {
     match check_vector(a, value, unknown) {
         Verdict::Refused(r) => ChangeAnswer::Refused(r),

@@ -31,7 +31,7 @@ pub fn splice_bits64(
     requires plane_2 { Plane width unknown.old }
     ensures value { result
         ≡ not (stands (from_planes width value.old unknown.old) pos n bits) }
-    ensures unknown_value { lent_by value.exit unknown.exit
+    ensures unknown_value { lent_by value.new unknown.new
         ≡ planes_of (spliced (from_planes width value.old unknown.old) pos n bits) }
 {
     let w = width as usize;

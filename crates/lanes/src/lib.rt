@@ -1,5 +1,7 @@
 // The operators on single words: each of the 64 places by its single-bit rule, in a few word operations. One function for each operator,
 // the choice among those of two words, and the places that hold a known 1.
+#![tactic(auto)]
+
 ghost use Rattle.std.specs.Prelude.{◌≡◌};
 ghost use Rattle.bit.specs.Rules.{and_bit, or_bit, xor_bit, merge_bit};
 ghost use Rattle.lanes.specs.Lanes.{op_bit, lane_word, not_word, known_ones};
@@ -7,7 +9,7 @@ ghost use Rattle.lanes.specs.Lanes.{op_bit, lane_word, not_word, known_ones};
 use words::Word;
 
 // An operator that joins two vectors place by place.
-#[derive(Drop)]
+#[derive(Clone, Copy)]
 pub enum Bitwise {
     And,
     Or,

@@ -1,4 +1,6 @@
 // Writers into a lent buffer: the lines of a text, a key and behind it a number or the bits of a vector; and a number or bits alone.
+#![tactic(auto)]
+
 ghost use Rattle.std.specs.Prelude.{◌≡◌};
 ghost use Rattle.text.specs.Write.{bit_byte};
 

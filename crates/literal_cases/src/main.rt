@@ -1,4 +1,6 @@
 // Sized literals through `fourstate`: each is read and written again, which is in binary; and texts that are no literals.
+#![tactic(auto)]
+
 use check::same;
 use fourstate::literal::{
     HeaderAnswer, LengthAnswer, TextAnswer, literal_header, literal_length, read_literal,

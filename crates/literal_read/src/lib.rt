@@ -1,4 +1,6 @@
 // Sized literals of IEEE 1800-2017, 5.7.1, read: a size of 1 to 4,096, an apostrophe, an optional s, a base and a value, such as 8'hzx.
+#![tactic(auto)]
+
 ghost use Rattle.std.specs.Prelude.{◌≡◌, true, ◌<◌, drop};
 ghost use Rattle.refusal.specs.Outcome.{outcome};
 ghost use Rattle.words.specs.Planes.{lent_by};
@@ -13,21 +15,21 @@ use refusal::{Refusal, Verdict};
 use value::{Header, VectorAnswer, check_output};
 
 // The header of a literal's vector, or the refusal.
-#[derive(Drop)]
+#[derive(Clone, Copy)]
 pub enum HeaderAnswer {
     Header(Header),
     Refused(Refusal),
 }
 
 // The size of a literal, and the place behind its apostrophe; a width of 0 if there is no size.
-#[derive(Drop)]
+#[derive(Clone, Copy)]
 struct Size {
     width: u32,
     next: usize,
 }
 
 // The parts of a literal: its base as a letter, and the place where its value begins; a width of 0 if it is no literal.
-#[derive(Drop)]
+#[derive(Clone, Copy)]
 struct Literal {
     width: u32,
     is_signed: bool,
@@ -175,8 +177,8 @@ pub fn literal_header(text: &[u8]) -> HeaderAnswer
 
 // Writes a literal's vector into planes of exactly its word count: 15, then 5.
 pub fn read_literal(text: &[u8], ov: &mut [u64], ou: &mut [u64]) -> VectorAnswer
-    ensures { outcome (vector_answer result) (lent_by ov.exit ou.exit)
-        ≡ read_literal text.now (lent_by ov.entry ou.entry) }
+    ensures { outcome (vector_answer result) (lent_by ov.new ou.new)
+        ≡ read_literal text.now (lent_by ov.old ou.old) }
 {
     let l = parts(text);
     let width = l.width;

@@ -1,4 +1,6 @@
 // The value of a sized literal (IEEE 1800-2017, 5.7.1): what its characters stand for. A base is its letter.
+#![tactic(auto)]
+
 ghost use Rattle.std.specs.Prelude.{◌≡◌, [], ◌∷◌};
 ghost use Rattle.literal_words.specs.Digits.{is_x, is_z, is_unknown, is_d, digit_number, radix as radix_of};
 ghost use Rattle.literal_words.specs.Digits.{leading as leading_bit};

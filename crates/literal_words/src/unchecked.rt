@@ -10,7 +10,7 @@ use crate::{digit_number, is_unknown, is_x, is_z, leading, radix};
 use words::unchecked::{extend_into, mask_plane};
 
 // Digits read at once: what they add to either plane, the power of the base that has as many, and the place behind them.
-#[derive(Drop)]
+#[derive(Clone, Copy)]
 struct Chunk {
     value: u64,
     unknown: u64,
@@ -116,7 +116,7 @@ pub fn fill_planes(
 )
     requires s_value { is_value base (drop from s.now) ≡ true }
     requires width_nonzero { (0 < width) × (length value.old ≡ word_count width) × (length unknown.old ≡ word_count width) }
-    ensures { lent_by value.exit unknown.exit
+    ensures { lent_by value.new unknown.new
         ≡ planes_of (value_bits base width (drop from s.now)) }
 {
     let r = radix(base);

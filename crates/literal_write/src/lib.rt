@@ -1,4 +1,6 @@
 // Vectors of 1 to 4,096 bits written as sized literals of IEEE 1800-2017, 5.7.1: binary, one digit a bit, such as 8'b0000zx01.
+#![tactic(auto)]
+
 ghost use Rattle.std.specs.Prelude.{◌≡◌, ◌++◌, ◌+◌, ◌≤◌, ◌<◌, length};
 ghost use Rattle.refusal.specs.Outcome.{outcome};
 ghost use Rattle.words.specs.Planes.{word_count, from_planes, lent_by};
@@ -13,14 +15,14 @@ use refusal::{Refusal, Verdict};
 use value::{Header, MAX_WIDTH, check_vector};
 
 // The length of a literal, or the refusal.
-#[derive(Drop)]
+#[derive(Clone, Copy)]
 pub enum LengthAnswer {
     Length(usize),
     Refused(Refusal),
 }
 
 // Whether a text was written into lent memory, or the refusal.
-#[derive(Drop)]
+#[derive(Clone, Copy)]
 pub enum TextAnswer {
     Written,
     Refused(Refusal),
@@ -91,7 +93,7 @@ pub fn literal_length(h: Header) -> LengthAnswer
 // Writes a vector as a literal into a text that is exactly as long: 1 to 4, then 15 as above, then 5.
 pub fn write_literal(h: Header, value: &[u64], unknown: &[u64], text: &mut [u8]) -> TextAnswer
     ensures { outcome (text_answer result) text.new
-        ≡ write_literal h (lent_by value.entry unknown.entry) text.old }
+        ≡ write_literal h (lent_by value.now unknown.now) text.old }
 {
     match check_vector(h, value, unknown) {
         Verdict::Refused(r) => TextAnswer::Refused(r),

@@ -1,4 +1,6 @@
 // A step list loaded: its text read whole, and its inputs put into the first cells.
+#![tactic(auto)]
+
 ghost use Rattle.std.specs.Prelude.{◌≡◌};
 ghost use Rattle.refusal.specs.Outcome.{outcome, after, verdict};
 ghost use Rattle.refusal.specs.Outcome.Answer.{given};
@@ -17,7 +19,7 @@ use unchecked::load_inputs;
 pub mod unchecked;
 
 // The cells of inputs: whether all were accepted, the cells of those that were, how many there are, and the first word behind them.
-#[derive(Drop)]
+#[derive(Clone, Copy)]
 pub struct Inputs {
     pub verdict: Verdict,
     pub fields: Fields,
@@ -26,7 +28,7 @@ pub struct Inputs {
 }
 
 // A list, where the text says one, and the cells of its inputs.
-#[derive(Drop)]
+#[derive(Clone, Copy)]
 pub struct Loaded {
     pub list: StepList,
     pub inputs: Inputs,
@@ -36,11 +38,11 @@ pub struct Loaded {
 // input is refused, the list that is given back is free.
 pub fn load_list(text: &[u8], av: &mut [u64], au: &mut [u64]) -> Loaded
     ensures au_value { outcome (verdict result.inputs.verdict)
-        (state_by (store_of result.inputs.count result.inputs.fields) av.exit au.exit)
-        ≡ load_list (state_by empty_store av.entry au.entry) (whole text.now) }
+        (state_by (store_of result.inputs.count result.inputs.fields) av.new au.new)
+        ≡ load_list (state_by empty_store av.old au.old) (whole text.now) }
     ensures text_value { after (verdict result.inputs.verdict) (whole text.now)
         ≡ after (verdict result.inputs.verdict) (given (list_in text.now result.list)) }
-    ensures fitted { Fitted result.inputs.fields result.inputs.count result.inputs.next (lent_by av.exit au.exit) }
+    ensures fitted { Fitted result.inputs.fields result.inputs.count result.inputs.next (lent_by av.new au.new) }
 {
     let a = read_list(text);
     let list = a.list;

@@ -28,8 +28,8 @@ fn load_input(
 ) -> PlaceAnswer
     requires input_readable { InputReadable text.now x }
     requires next_in_bounds { (next ≤ length av.old) × (length av.old ≡ length au.old) }
-    ensures { outcome (place_answer result) (lent_by av.exit au.exit)
-        ≡ take_input count next x.header (planes_of (input_in text.now x).bits) (lent_by av.entry au.entry) }
+    ensures { outcome (place_answer result) (lent_by av.new au.new)
+        ≡ take_input count next x.header (planes_of (input_in text.now x).bits) (lent_by av.old au.old) }
 {
     let h = x.header;
     let n = word_count(h.width);
@@ -42,9 +42,9 @@ fn load_input(
 // Puts the inputs of the list into the first cells, up to the first that is refused.
 pub fn load_inputs(list: StepList, text: &[u8], av: &mut [u64], au: &mut [u64]) -> Inputs
     requires { InputsReadable text.now list }
-    ensures au_value { outcome (verdict result.verdict) (state_by (store_of result.count result.fields) av.exit au.exit)
-        ≡ add_inputs (state_by empty_store av.entry au.entry) (list_in text.now list).inputs }
-    ensures fitted { Fitted result.fields result.count result.next (lent_by av.exit au.exit) }
+    ensures au_value { outcome (verdict result.verdict) (state_by (store_of result.count result.fields) av.new au.new)
+        ≡ add_inputs (state_by empty_store av.old au.old) (list_in text.now list).inputs }
+    ensures fitted { Fitted result.fields result.count result.next (lent_by av.new au.new) }
 {
     let mut f = no_fields();
     let mut next = 0;

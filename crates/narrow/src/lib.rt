@@ -1,5 +1,7 @@
 // Word forms of the operators, for vectors of at most 64 bits: a word of each plane in, a word pair or an answer out. Nothing is asked of
 // the words: a form that takes a width does not see the bits at or above it, the others see all 64 places.
+#![tactic(auto)]
+
 ghost use Rattle.std.specs.Prelude.{◌≡◌, min};
 ghost use Rattle.words.specs.Planes.{vector_of, planes_of, width_mask};
 ghost use Rattle.lanes.specs.Lanes.{not_word};

@@ -1,4 +1,6 @@
 // The ops of a step list: how each is worked out, how many cells it names, which arms it refuses, the header of its result, and its code.
+#![tactic(auto)]
+
 ghost use Rattle.std.specs.Prelude.{◌≡◌};
 ghost use Rattle.ops.specs.Ops.{family_of, operands, uses, arms_refused, op_header};
 ghost use Rattle.ops.specs.Names.{op_of};
@@ -10,7 +12,7 @@ use value::Header;
 pub mod unchecked;
 
 // The ops of a step list.
-#[derive(Drop)]
+#[derive(Clone, Copy)]
 pub enum Op {
     And,
     Or,
@@ -32,14 +34,14 @@ pub enum Op {
 }
 
 // The op that has a code, or none.
-#[derive(Drop)]
+#[derive(Clone, Copy)]
 pub enum OpAnswer {
     Op(Op),
     NoOp,
 }
 
 // One step of a list: its op, and three numbers, of which the first are the cells that the op names; insert takes c as its position.
-#[derive(Drop)]
+#[derive(Clone, Copy)]
 pub struct Step {
     pub op: Op,
     pub a: u32,
@@ -48,7 +50,7 @@ pub struct Step {
 }
 
 // What an op asks whose result is one bit.
-#[derive(Drop)]
+#[derive(Clone, Copy)]
 pub enum Question {
     ReduceAnd,
     ReduceOr,
@@ -59,7 +61,7 @@ pub enum Question {
 }
 
 // The ops by how they are worked out.
-#[derive(Drop)]
+#[derive(Clone, Copy)]
 pub enum Family {
     Join(Bitwise),
     Not,

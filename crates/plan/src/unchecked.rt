@@ -79,8 +79,8 @@ pub fn plan_step<'a>(
 ) -> PlanAnswer
     requires { (count ≤ 320) × (next ≡ words_taken (headers_by count widths signs fills)) × (next ≤ room.arena) }
     ensures { plan_answer result
-        ≡ after (check_step room (headers_by count widths.entry signs.entry fills.entry) step)
-        (given (planned (headers_by count widths.entry signs.entry fills.entry) step)) }
+        ≡ after (check_step room (headers_by count widths.now signs.now fills.now) step)
+        (given (planned (headers_by count widths.now signs.now fills.now) step)) }
 {
     if 320 <= count {
         return PlanAnswer::Refused(Refusal::StoreFull);

@@ -1,4 +1,6 @@
 // A real as a vector.
+#![tactic(auto)]
+
 ghost use Rattle.std.specs.Prelude.{◌≡◌, ◌+◌, ◌-◌, ◌*◌, ◌/◌, ◌%◌, ◌^◌, ◌<◌, max, length, if◌then◌else◌};
 ghost use Rattle.std.specs.Float.Ieee as Ieee;
 ghost use Rattle.std.specs.Float.{binary64};
@@ -12,7 +14,7 @@ use value::{MAX_WIDTH, VectorAnswer, check_output, plain_header};
 use words::unchecked::{kept, ones};
 
 // A whole number: digits * 2^shift, below zero if negative.
-#[derive(Drop)]
+#[derive(Clone, Copy)]
 struct Scaled {
     negative: bool,
     digits: u64,
@@ -125,7 +127,7 @@ fn signed_word(negative: bool, zeros: bool, word: u64) -> u64
 // Writes a real as a vector of the width.
 fn write_real(f: f64, width: u32, value: &mut [u64], unknown: &mut [u64])
     requires { (length value.old ≡ word_count width) × (length unknown.old ≡ word_count width) }
-    ensures { lent_by value.exit unknown.exit ≡ planes_of (real_vector width f) }
+    ensures { lent_by value.new unknown.new ≡ planes_of (real_vector width f) }
 {
     let r = rounded_real(f);
     let negative = r.negative;
@@ -152,8 +154,8 @@ fn at_least_one(width: u32) -> u32
 
 // A real as an unsigned vector: rounded, half away from zero, modulo 2 to the width, which is at least 1. Infinite and NaN give 0.
 pub fn from_real_wrapped(f: f64, width: u32, value: &mut [u64], unknown: &mut [u64]) -> VectorAnswer
-    ensures { outcome (vector_answer result) (lent_by value.exit unknown.exit)
-        ≡ from_real f width (lent_by value.entry unknown.entry) }
+    ensures { outcome (vector_answer result) (lent_by value.new unknown.new)
+        ≡ from_real f width (lent_by value.old unknown.old) }
 {
     if MAX_WIDTH < width {
         return VectorAnswer::Refused(Refusal::TooWide);

@@ -1,2 +1,4 @@
 // What a vector counts as beside a real.
+#![tactic(auto)]
+
 pub mod unchecked;

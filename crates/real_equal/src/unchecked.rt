@@ -16,7 +16,7 @@ use words::unchecked::{kept, ones};
 fn vector_real(h: Header, value: &[u64], unknown: &[u64]) -> f64
     requires { Plane h.width value.now × Plane h.width unknown.now }
     ensures { result
-        ≡ Ieee.of_int binary64 (vector_integer (vector h (lent_by value.entry unknown.entry))) }
+        ≡ Ieee.of_int binary64 (vector_integer (vector h (lent_by value.now unknown.now))) }
 {
     let n = value[0] & !unknown[0];
     if h.is_fill {
@@ -35,7 +35,7 @@ fn vector_real(h: Header, value: &[u64], unknown: &[u64]) -> f64
 // The real that an operand counts as.
 fn operand_real(o: Operand, value: &[u64], unknown: &[u64]) -> f64
     requires { WholePlanes o (lent_by value unknown) }
-    ensures { result ≡ real_of o (lent_by value.entry unknown.entry) }
+    ensures { result ≡ real_of o (lent_by value.now unknown.now) }
 {
     match o {
         Operand::Vector(h) => vector_real(h, value, unknown),
@@ -53,7 +53,7 @@ pub fn equal_reals(
     bu: &[u64],
 ) -> BitAnswer
     ensures { bit_answer result
-        ≡ real_equality a (lent_by av.entry au.entry) b (lent_by bv.entry bu.entry) }
+        ≡ real_equality a (lent_by av.now au.now) b (lent_by bv.now bu.now) }
 {
     match check_operand(a, av, au) {
         Verdict::Refused(r) => BitAnswer::Refused(r),

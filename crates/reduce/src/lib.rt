@@ -1,4 +1,6 @@
 // The reductions of a vector to one bit.
+#![tactic(auto)]
+
 ghost use Rattle.std.specs.Prelude.{◌≡◌};
 ghost use Rattle.words.specs.Planes.{lent_by};
 ghost use Rattle.value.specs.Answers.{bit_answer};
@@ -11,7 +13,7 @@ use value::{BitAnswer, Header};
 
 // 0 on any known 0, else x on any unknown bit, else 1.
 pub fn reduce_and(h: Header, value: &[u64], unknown: &[u64]) -> BitAnswer
-    ensures { bit_answer result ≡ reduction reduce_and h (lent_by value.entry unknown.entry) }
+    ensures { bit_answer result ≡ reduction reduce_and h (lent_by value.now unknown.now) }
 {
     let width = h.width;
     match value::check_vector(h, value, unknown) {
@@ -22,7 +24,7 @@ pub fn reduce_and(h: Header, value: &[u64], unknown: &[u64]) -> BitAnswer
 
 // 1 on any known 1, else x on any unknown bit, else 0.
 pub fn reduce_or(h: Header, value: &[u64], unknown: &[u64]) -> BitAnswer
-    ensures { bit_answer result ≡ reduction reduce_or h (lent_by value.entry unknown.entry) }
+    ensures { bit_answer result ≡ reduction reduce_or h (lent_by value.now unknown.now) }
 {
     let width = h.width;
     match value::check_vector(h, value, unknown) {
@@ -33,7 +35,7 @@ pub fn reduce_or(h: Header, value: &[u64], unknown: &[u64]) -> BitAnswer
 
 // x on any unknown bit, else whether the number of ones is odd.
 pub fn reduce_xor(h: Header, value: &[u64], unknown: &[u64]) -> BitAnswer
-    ensures { bit_answer result ≡ reduction reduce_xor h (lent_by value.entry unknown.entry) }
+    ensures { bit_answer result ≡ reduction reduce_xor h (lent_by value.now unknown.now) }
 {
     let width = h.width;
     match value::check_vector(h, value, unknown) {

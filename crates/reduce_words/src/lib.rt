@@ -1,4 +1,6 @@
 // A vector's bits put together into one: the reductions, and truth.
+#![tactic(auto)]
+
 ghost use Rattle.std.specs.Prelude.{◌≡◌};
 ghost use Rattle.reduce_words.specs.Fold.{truth_bit};
 
@@ -7,7 +9,7 @@ use bit::LogicBit;
 pub mod unchecked;
 
 // Whether an operand counts as true; unknown where its unknown bits decide.
-#[derive(Drop)]
+#[derive(Clone, Copy)]
 pub enum Truth {
     False,
     True,

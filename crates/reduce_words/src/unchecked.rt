@@ -14,7 +14,7 @@ use words::unchecked::ones;
 pub fn truth(width: u32, value: &[u64], unknown: &[u64]) -> Truth
     requires plane { Plane width value.now }
     requires plane_2 { Plane width unknown.now }
-    ensures value { result ≡ truth_by_words (lent_by value.entry unknown.entry) }
+    ensures value { result ≡ truth_by_words (lent_by value.now unknown.now) }
     ensures value_2 { result ≡ truth_of (from_planes width value.now unknown.now) }
 {
     let mut seen = 0;

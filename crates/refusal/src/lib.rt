@@ -1,9 +1,11 @@
 // The numbered refusals of documents 01 and 02, one case for each number, and the verdict of a check.
+#![tactic(auto)]
+
 ghost use Rattle.std.specs.Prelude.{◌≡◌};
 ghost use Rattle.refusal.specs.Refusals.{refusal_number};
 
 // Why a call was not done.
-#[derive(Drop)]
+#[derive(Clone, Copy)]
 pub enum Refusal {
     // 1: the width is above 1,048,576.
     TooWide,
@@ -32,7 +34,7 @@ pub enum Refusal {
 }
 
 // Whether a check, or a call that answers nothing else, refuses.
-#[derive(Drop)]
+#[derive(Clone, Copy)]
 pub enum Verdict {
     Accepted,
     Refused(Refusal),

@@ -4,7 +4,6 @@ use Rattle.std.specs.Prelude.{ℕ, ◌%◌, ◌^◌, min, Bool, true, false, con
 use Prim.Native.Char.{code}
 use Rattle.std.specs.Float.Ieee as Ieee
 use Rattle.std.specs.Float.{binary64}
-use Rattle.std.specs.Borrow.{Bor}
 use Rattle.bit.specs.declared.LogicBit.{LogicBit}
 use Rattle.words.specs.Vector.{tabulate, at}
 use Rattle.words.specs.Planes.{value_digit, unknown_digit, word_count, word_of, word_at, Planes, lent}
@@ -82,8 +81,8 @@ pub record Reading : Type 0 where
   pub field : Field
   pub planes : Planes
 
-abbrev pub reading : Field → Bor (List ℕ) → Bor (List ℕ) → Reading
-reading f v u = record { field = f; planes = lent v.now u.now }
+abbrev pub reading : Field → List ℕ → List ℕ → Reading
+reading f v u = record { field = f; planes = lent v u }
 
 -- field k of a line: as many words of its planes as are lent are written there
 unfoldable pub read_field : ℕ → List ℕ → Planes → Reading

@@ -32,5 +32,7 @@
 // refusal. Field 1 and fields behind those of the call are not read. A name that is none, and a call whose first operand asks for more
 // than 16,385 words or another for more than 65, has the number 29 of no call. Of what a call leaves 65 words are told, and zeros behind
 // them.
+#![tactic(auto)]
+
 mod parse;
 pub mod unchecked;

@@ -158,7 +158,7 @@ pub(crate) fn real(s: &[u8]) -> f64
 }
 
 // A vector's header and how many words each plane has.
-#[derive(Drop)]
+#[derive(Clone, Copy)]
 pub(crate) struct Sizes {
     pub(crate) header: Header,
     pub(crate) value: usize,

@@ -74,8 +74,8 @@ fn meant(s: &[u8], m: usize, n: usize) -> Field
 
 // Field k of a line; a vector's planes are written to the lent ones, as far as those reach.
 pub fn field(line: &[u8], k: usize, value: &mut [u64], unknown: &mut [u64]) -> Field
-    ensures unknown_value { reading result value.exit unknown.exit
-        ≡ read_field k line.now (lent_by value.entry unknown.entry) }
+    ensures unknown_value { reading result value.new unknown.new
+        ≡ read_field k line.now (lent_by value.old unknown.old) }
     ensures value_in_bounds { (result.value ≤ length value.new) × (result.unknown ≤ length unknown.new) }
 {
     let s = part(line, k, b' ');
@@ -108,7 +108,7 @@ fn left_at(line: &[u8], out: usize) -> usize
 // Whether planes hold what the answer of a line leaves there: its bits or, where it is a refusal, those of field `out`. Of these 65 words
 // are read, and planes that are longer hold zeros behind them.
 pub fn are_left(line: &[u8], out: usize, value: &[u64], unknown: &[u64]) -> bool
-    ensures { result ≡ are_left out line.now (lent_by value.entry unknown.entry) }
+    ensures { result ≡ are_left out line.now (lent_by value.now unknown.now) }
 {
     let k = left_at(line, out);
     let mut v = [0u64; 65];

@@ -1,5 +1,7 @@
 // The whole case of document 01 through `fourstate`: as a text that is run, and as inputs and steps on a store that the caller keeps. What
 // a run writes is compared by the cases of `cones`.
+#![tactic(auto)]
+
 use agreement::same_words;
 use fourstate::steps::{Op, RunEnding, Step, run};
 use fourstate::store::{CellAnswer, Store};

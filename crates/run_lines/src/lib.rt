@@ -1,2 +1,4 @@
 // The lines that a run of a step list writes.
+#![tactic(auto)]
+
 pub mod unchecked;

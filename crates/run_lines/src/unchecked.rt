@@ -20,7 +20,7 @@ pub fn put_step(
     requires n_bound { (n < 1000) × (at + 15 + h.width ≤ length out.old) }
     requires width_in_bounds { (word_count h.width ≤ length value.now) × (word_count h.width ≤ length unknown.now) }
     ensures { buffer out.new result
-        ≡ put (buffer out.old at) (cell_text n (front_bits h.width (lent_by value.entry unknown.entry))) }
+        ≡ put (buffer out.old at) (cell_text n (front_bits h.width (lent_by value.now unknown.now))) }
 {
     let i = put_number_line(out, at, b"cell=", n);
     let k = word_count(h.width);

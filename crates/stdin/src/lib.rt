@@ -1,10 +1,12 @@
 // Standard input, read to its end.
+#![tactic(auto)]
+
 ghost use Rattle.std.specs.Prelude.{◌≤◌, length};
 
 use libc::STDIN_FILENO;
 
 // How much of the buffer was read; `failed` where a read failed.
-#[derive(Drop)]
+#[derive(Clone, Copy)]
 pub struct ReadCount {
     pub failed: bool,
     pub count: usize,

@@ -1,4 +1,6 @@
 // A step list, read whole and strictly: the inputs with the places of their bits in the text, and the steps.
+#![tactic(auto)]
+
 ghost use Rattle.std.specs.Prelude.{◌≡◌, ◌≤◌, drop};
 ghost use Rattle.text.specs.Answers.{got_at};
 ghost use Rattle.steplist.specs.OpLine.{op_line, largest as largest_of};
@@ -12,14 +14,14 @@ use text::unchecked::one_of;
 use value::Header;
 
 // An input: its header, and the place in the text where its bits stand, highest first.
-#[derive(Drop)]
+#[derive(Clone, Copy)]
 pub struct Input {
     pub header: Header,
     pub place: usize,
 }
 
 // The first `input_count` inputs and the first `step_count` steps are those of the list.
-#[derive(Drop)]
+#[derive(Clone, Copy)]
 pub struct StepList {
     pub inputs: [Input; 64],
     pub input_count: usize,
@@ -28,42 +30,42 @@ pub struct StepList {
 }
 
 // Whether a text says a list, and the list if it does.
-#[derive(Drop)]
+#[derive(Clone, Copy)]
 pub struct ListAnswer {
     pub verdict: Verdict,
     pub list: StepList,
 }
 
 // An op and the place behind its line.
-#[derive(Drop)]
+#[derive(Clone, Copy)]
 struct OpRead {
     op: Op,
     next: usize,
 }
 
 // An input, and the place behind its lines.
-#[derive(Drop)]
+#[derive(Clone, Copy)]
 struct InputRead {
     input: Input,
     next: usize,
 }
 
 // The inputs, and the place behind them.
-#[derive(Drop)]
+#[derive(Clone, Copy)]
 struct InputsRead {
     inputs: [Input; 64],
     next: usize,
 }
 
 // A step, and the place behind its lines.
-#[derive(Drop)]
+#[derive(Clone, Copy)]
 struct StepRead {
     step: Step,
     next: usize,
 }
 
 // The steps, and the place behind them.
-#[derive(Drop)]
+#[derive(Clone, Copy)]
 struct StepsRead {
     steps: [Step; 256],
     next: usize,

@@ -1,6 +1,5 @@
 -- Document 01, "Step list": the run of a list on a memory, and what it writes. Each input and each step gets the memory as the one before left it.
 use Rattle.std.specs.Prelude.{List, [], ◌∷◌, ◌++◌, ℕ, suc}
-use Rattle.std.specs.Borrow.{Bor}
 use Rattle.bit.specs.declared.LogicBit.{LogicBit}
 use Rattle.refusal.specs.Refusals.{refusal_number}
 use Rattle.refusal.specs.Outcome.{Answer}
@@ -98,9 +97,9 @@ final m b e = record { memory = m; out = b; ending = e }
 abbrev pub final_of : Ran → Buffer → Final
 final_of r b = final r.memory (put b r.text) r.ending
 
--- by the references, after a pass over steps and after a run
-abbrev pub pass_by : Pass → (av au sv su out : Bor (List ℕ)) → Final
-pass_by r av au sv su out = final (memory_by (store_of r.count r.fields) av au sv su) (buffer out.now r.length) (ending_of r.ending)
+-- by what is lent, after a pass over steps and after a run
+abbrev pub pass_by : Pass → (av au sv su out : List ℕ) → Final
+pass_by r av au sv su out = final (memory_by (store_of r.count r.fields) av au sv su) (buffer out r.length) (ending_of r.ending)
 
-abbrev pub final_by : RunAnswer → (av au sv su out : Bor (List ℕ)) → Final
-final_by r av au sv su out = final (memory_by r.store av au sv su) (buffer out.now r.length) (ending_of r.ending)
+abbrev pub final_by : RunAnswer → (av au sv su out : List ℕ) → Final
+final_by r av au sv su out = final (memory_by r.store av au sv su) (buffer out r.length) (ending_of r.ending)

@@ -1,5 +1,7 @@
 // A step list, run: its text is loaded, its steps are planned and executed one after the other, and the lines that it writes stand in a
 // buffer.
+#![tactic(auto)]
+
 ghost use Rattle.std.specs.Prelude.{◌≡◌};
 ghost use Rattle.words.specs.Planes.{lent_by};
 ghost use Rattle.lines.specs.Buffer.{buffer};
@@ -15,7 +17,7 @@ use unchecked::run_steps;
 pub mod unchecked;
 
 // How a run ended: with every step run, and how many that are, or by a refusal at a step, counted from 1; 0 is the text or an input.
-#[derive(Drop)]
+#[derive(Clone, Copy)]
 pub enum RunEnding {
     Done(u32),
     Refused(Refusal, u32),
@@ -23,7 +25,7 @@ pub enum RunEnding {
 
 // What a pass over steps leaves: the four arrays of the cells, how many are filled, how many bytes were written at the front of the
 // buffer, and how it ended.
-#[derive(Drop)]
+#[derive(Clone, Copy)]
 pub struct Pass {
     pub fields: Fields,
     pub count: usize,
@@ -32,7 +34,7 @@ pub struct Pass {
 }
 
 // The store that a run leaves, how many bytes it wrote at the front of the buffer, and how it ended.
-#[derive(Drop)]
+#[derive(Clone, Copy)]
 pub struct RunAnswer {
     pub store: Store,
     pub length: usize,
@@ -49,11 +51,11 @@ pub fn run(
     su: &mut [u64],
     out: &mut [u8; 1052436],
 ) -> RunAnswer
-    ensures { final_by result av.exit au.exit sv.exit su.exit out.exit
+    ensures { final_by result av.new au.new sv.new su.new out.new
         ≡ final_of
         (run_text
-        (lent_by av.entry au.entry)
-        (lent_by sv.entry su.entry)
+        (lent_by av.old au.old)
+        (lent_by sv.old su.old)
         text.now)
         (buffer out.old 0) }
 {

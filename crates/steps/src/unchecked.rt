@@ -30,10 +30,10 @@ pub fn run_steps(
 ) -> Pass
     requires step_count_bound { (list.step_count ≤ 256) × (1052436 ≤ length out.old) }
     requires fitted { Fitted inputs.fields inputs.count inputs.next (lent_by av au) }
-    ensures { pass_by result av.exit au.exit sv.exit su.exit out.exit
+    ensures { pass_by result av.new au.new sv.new su.new out.new
         ≡ final_of
         (run_steps
-        (memory_by (store_of inputs.count inputs.fields) av.entry au.entry sv.entry su.entry)
+        (memory_by (store_of inputs.count inputs.fields) av.old au.old sv.old su.old)
         0
         (steps_in list.step_count list.steps))
         (buffer out.old 0) }

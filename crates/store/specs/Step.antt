@@ -1,7 +1,6 @@
 -- Document 01, "Cell store", "Step list" and "Numbers for what is not done": what adding a step does to the store, its arenas and the two lent
 -- scratch planes.
 use Rattle.std.specs.Prelude.{List, ℕ}
-use Rattle.std.specs.Borrow.{Bor}
 use Rattle.refusal.specs.Outcome.{Answer, Outcome, outcome, after, or_refuse}
 use Rattle.refusal.specs.Outcome.Answer.{given}
 use Rattle.words.specs.Planes.{Planes, lent_by, planes_of}
@@ -20,8 +19,8 @@ pub record Memory : Type 0 where
 abbrev pub memory : State → Planes → Memory
 memory s p = record { state = s; scratch = p }
 
--- by the references
-abbrev pub memory_by : Store → (av au sv su : Bor (List ℕ)) → Memory
+-- by what is lent
+abbrev pub memory_by : Store → (av au sv su : List ℕ) → Memory
 memory_by s av au sv su = memory (state_by s av au) (lent_by sv su)
 
 -- 14, then 12, 11, 7 and 13, which go by the headers of the filled cells

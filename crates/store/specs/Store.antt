@@ -1,7 +1,6 @@
 -- Document 01, "Cell store" and "Numbers for what is not done": at most 320 cells, what a store and its arenas must agree on, and what adding an
 -- input does to both.
 use Rattle.std.specs.Prelude.{◌≡◌, Bool, true, List, [], map, ℕ, ◌+◌, min, length, take, set, replicate}
-use Rattle.std.specs.Borrow.{Bor}
 use Rattle.refusal.specs.Refusals.{refusal_number}
 use Rattle.refusal.specs.Outcome.{Answer, Outcome, outcome, after, or_refuse}
 use Rattle.refusal.specs.Outcome.Answer.{given, refused}
@@ -34,8 +33,8 @@ pub record State : Type 0 where
 abbrev pub state : Store → Planes → State
 state s a = record { store = s; arenas = a }
 
--- by the references
-abbrev pub state_by : Store → (av au : Bor (List ℕ)) → State
+-- by what is lent
+abbrev pub state_by : Store → (av au : List ℕ) → State
 state_by s av au = state s (lent_by av au)
 
 unfoldable pub empty_store : Store
@@ -45,8 +44,8 @@ empty_store = record { cells = replicate 320 no_cell; count = 0 }
 abbrev pub store_of : ℕ → Fields → Store
 store_of n f = record { cells = places_of f; count = n }
 
--- by the references
-abbrev pub store_by : ℕ → (starts widths : Bor (List ℕ)) → (signs fills : Bor (List Bool)) → Store
+-- by what is lent
+abbrev pub store_by : ℕ → (starts widths : List ℕ) → (signs fills : List Bool) → Store
 store_by n a b c d = store_of n (fields_by a b c d)
 
 -- the filled cells, in order

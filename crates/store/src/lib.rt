@@ -1,5 +1,7 @@
 // The cell store: at most 320 vectors, numbered from 0, whose words lie one behind the other in two lent arenas. The store goes in by
 // value and comes back by value, inside the answer.
+#![tactic(auto)]
+
 ghost use Rattle.std.specs.Prelude.{◌≡◌};
 ghost use Rattle.refusal.specs.Outcome.{outcome};
 ghost use Rattle.words.specs.Planes.{lent_by};
@@ -17,28 +19,28 @@ use value::{Header, plain_header};
 pub mod unchecked;
 
 // The first `count` cells are filled.
-#[derive(Drop)]
+#[derive(Clone, Copy)]
 pub struct Store {
     pub cells: [Cell; 320],
     pub count: usize,
 }
 
 // The number of the cell that was added, or the refusal.
-#[derive(Drop)]
+#[derive(Clone, Copy)]
 pub enum CellAnswer {
     Added(usize),
     Refused(Refusal),
 }
 
 // The cell that a step has added, or the refusal.
-#[derive(Drop)]
+#[derive(Clone, Copy)]
 pub enum StepAnswer {
     Added(Cell),
     Refused(Refusal),
 }
 
 // An answer, and the store as the call leaves it.
-#[derive(Drop)]
+#[derive(Clone, Copy)]
 pub struct Stored {
     pub answer: CellAnswer,
     pub store: Store,
@@ -68,8 +70,8 @@ impl Store {
         av: &mut [u64],
         au: &mut [u64],
     ) -> Stored
-        ensures { outcome (cell_answer result.answer) (state_by result.store av.exit au.exit)
-            ≡ add_input (state_by self av.entry au.entry) h (lent_by value.entry unknown.entry) }
+        ensures { outcome (cell_answer result.answer) (state_by result.store av.new au.new)
+            ≡ add_input (state_by self av.old au.old) h (lent_by value.now unknown.now) }
     {
         let cells = self.cells;
         match check_cells(cells, self.count, av, au) {
@@ -105,8 +107,8 @@ impl Store {
         sv: &mut [u64],
         su: &mut [u64],
     ) -> Stored
-        ensures { outcome (cell_answer result.answer) (memory_by result.store av.exit au.exit sv.exit su.exit)
-            ≡ add_step (memory_by self av.entry au.entry sv.entry su.entry) step }
+        ensures { outcome (cell_answer result.answer) (memory_by result.store av.new au.new sv.new su.new)
+            ≡ add_step (memory_by self av.old au.old sv.old su.old) step }
     {
         let cells = self.cells;
         match check_cells(cells, self.count, av, au) {
@@ -142,7 +144,7 @@ pub fn store_of<'a>(
     signs: &'a [bool; 320],
     fills: &'a [bool; 320],
 ) -> Store
-    ensures { result ≡ store_by count starts.entry widths.entry signs.entry fills.entry }
+    ensures { result ≡ store_by count starts.now widths.now signs.now fills.now }
 {
     let mut s = Store::new();
     let mut i = 0;

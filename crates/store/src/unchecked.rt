@@ -43,8 +43,8 @@ pub fn take_input(
     au: &mut [u64],
 ) -> PlaceAnswer
     requires { (next ≤ length av.old) × (length av.old ≡ length au.old) }
-    ensures { outcome (place_answer result) (lent_by av.exit au.exit)
-        ≡ take_input count next h (lent_by value.entry unknown.entry) (lent_by av.entry au.entry) }
+    ensures { outcome (place_answer result) (lent_by av.new au.new)
+        ≡ take_input count next h (lent_by value.now unknown.now) (lent_by av.old au.old) }
 {
     let checked = check_vector(h, value, unknown);
     let room = Room {
@@ -76,11 +76,11 @@ pub fn take_step<'a>(
 ) -> StepAnswer
     requires { Laid (fields_by starts widths signs fills) count next (lent_by av au) }
     ensures { outcome (taken_answer count result)
-        (memory_by (taken_store result (store_by count starts.entry widths.entry signs.entry fills.entry))
-        av.exit au.exit sv.exit su.exit)
+        (memory_by (taken_store result (store_by count starts.now widths.now signs.now fills.now))
+        av.new au.new sv.new su.new)
         ≡ add_step
-        (memory_by (store_by count starts.entry widths.entry signs.entry fills.entry)
-        av.entry au.entry sv.entry su.entry)
+        (memory_by (store_by count starts.now widths.now signs.now fills.now)
+        av.old au.old sv.old su.old)
         step }
 {
     let room = Room {

@@ -1,4 +1,6 @@
 // A store of cells as it crosses to C and Rust: its four arrays written, and the answer of a call on it as numbers.
+#![tactic(auto)]
+
 ghost use Rattle.std.specs.Prelude.{◌≡◌};
 ghost use Rattle.store.specs.Store.{cell_answer};
 ghost use Rattle.cells.specs.Places.{fields_by, fields_of};
@@ -8,7 +10,7 @@ use store::{CellAnswer, Store, Stored, fields_of};
 
 // 0 where the call was done, and then the number of the new cell.
 #[repr(C)]
-#[derive(Drop)]
+#[derive(Clone, Copy)]
 pub struct CellResult {
     pub refusal: u8,
     pub cell: usize,
@@ -22,7 +24,7 @@ pub fn save(
     signs: &mut [bool; 320],
     fills: &mut [bool; 320],
 )
-    ensures { fields_by starts.exit widths.exit signs.exit fills.exit ≡ fields_of s.cells }
+    ensures { fields_by starts.new widths.new signs.new fills.new ≡ fields_of s.cells }
 {
     let f = fields_of(s);
     let a = f.starts;
@@ -43,8 +45,8 @@ pub fn settle(
     signs: &mut [bool; 320],
     fills: &mut [bool; 320],
 ) -> CellResult
-    ensures { settled result (fields_by starts.exit widths.exit signs.exit fills.exit)
-        ≡ settled_by (cell_answer r.answer) r.store (fields_by starts.entry widths.entry signs.entry fills.entry) }
+    ensures { settled result (fields_by starts.new widths.new signs.new fills.new)
+        ≡ settled_by (cell_answer r.answer) r.store (fields_by starts.old widths.old signs.old fills.old) }
 {
     let answer = r.answer;
     match answer {

@@ -1,6 +1,8 @@
 // Readers of the lines of a text: a key, and behind it a number or the bits of a vector; or one of several lines. A reader is handed the
 // text and a place in it, and gives what stands there with the place behind it. Where that is not as it should be, the place given is past
 // the end of every text, and nothing is found there: readers are called one after the other, and the last place tells.
+#![tactic(auto)]
+
 ghost use Rattle.std.specs.Prelude.{◌≡◌, drop};
 ghost use Rattle.text.specs.Read.{key as key_of, number_line, bits_line};
 ghost use Rattle.text.specs.Answers.{place_in, line_in};
@@ -8,7 +10,7 @@ ghost use Rattle.text.specs.Answers.{place_in, line_in};
 pub mod unchecked;
 
 // The number that a line gives and the place where the next line begins.
-#[derive(Drop)]
+#[derive(Clone, Copy)]
 pub struct Line {
     pub number: u32,
     pub next: usize,

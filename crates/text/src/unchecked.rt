@@ -60,7 +60,7 @@ pub fn read_word(s: &[u8], from: usize, n: usize) -> Word
 pub fn fill_planes(s: &[u8], place: usize, width: u32, value: &mut [u64], unknown: &mut [u64])
     requires width_in_bounds { width ≤ length s.now - place }
     requires value_len { (length value.old ≡ word_count width) × (length unknown.old ≡ word_count width) }
-    ensures { lent_by value.exit unknown.exit ≡ planes_of (bits_in s.now place width) }
+    ensures { lent_by value.new unknown.new ≡ planes_of (bits_in s.now place width) }
 {
     let mut left = width as usize;
     let mut k = 0;

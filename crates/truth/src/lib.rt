@@ -1,4 +1,6 @@
 // The truth of an operand, a vector or a real, and the logical operators on the truths of two.
+#![tactic(auto)]
+
 ghost use Rattle.std.specs.Prelude.{◌≡◌, cond};
 ghost use Rattle.bit.specs.Rules.{and_bit, or_bit};
 ghost use Rattle.words.specs.Planes.{lent_by};
@@ -12,7 +14,7 @@ use reduce_words::{Truth, truth_bit};
 use refusal::{Refusal, Verdict};
 use value::{BitAnswer, Header, Operand};
 
-#[derive(Drop)]
+#[derive(Clone, Copy)]
 pub enum TruthAnswer {
     Truth(Truth),
     Refused(Refusal),
@@ -20,7 +22,7 @@ pub enum TruthAnswer {
 
 // The truth of a vector.
 fn vector_truth(h: Header, value: &[u64], unknown: &[u64]) -> TruthAnswer
-    ensures { truth_answer result ≡ is_nonzero (Vector h) (lent_by value.entry unknown.entry) }
+    ensures { truth_answer result ≡ is_nonzero (Vector h) (lent_by value.now unknown.now) }
 {
     let width = h.width;
     match value::check_vector(h, value, unknown) {
@@ -31,7 +33,7 @@ fn vector_truth(h: Header, value: &[u64], unknown: &[u64]) -> TruthAnswer
 
 // The truth of a real.
 fn real_truth(x: f64, value: &[u64], unknown: &[u64]) -> TruthAnswer
-    ensures { truth_answer result ≡ is_nonzero (Real x) (lent_by value.entry unknown.entry) }
+    ensures { truth_answer result ≡ is_nonzero (Real x) (lent_by value.now unknown.now) }
 {
     match value::check_operand(Operand::Real(x), value, unknown) {
         Verdict::Refused(r) => TruthAnswer::Refused(r),
@@ -46,7 +48,7 @@ fn real_truth(x: f64, value: &[u64], unknown: &[u64]) -> TruthAnswer
 
 // True on a known 1, else unknown on an unknown bit, else false; a real is true if not equal to 0.
 pub fn is_nonzero(o: Operand, value: &[u64], unknown: &[u64]) -> TruthAnswer
-    ensures { truth_answer result ≡ is_nonzero o (lent_by value.entry unknown.entry) }
+    ensures { truth_answer result ≡ is_nonzero o (lent_by value.now unknown.now) }
 {
     match o {
         Operand::Vector(h) => vector_truth(h, value, unknown),
@@ -65,7 +67,7 @@ fn combine(
     bu: &[u64],
 ) -> BitAnswer
     ensures { bit_answer result
-        ≡ combined (cond by_and and_bit or_bit) a (lent_by av.entry au.entry) b (lent_by bv.entry bu.entry) }
+        ≡ combined (cond by_and and_bit or_bit) a (lent_by av.now au.now) b (lent_by bv.now bu.now) }
 {
     match is_nonzero(a, av, au) {
         TruthAnswer::Refused(r) => BitAnswer::Refused(r),
@@ -93,7 +95,7 @@ pub fn logic_and(
     bu: &[u64],
 ) -> BitAnswer
     ensures { bit_answer result
-        ≡ logic_and a (lent_by av.entry au.entry) b (lent_by bv.entry bu.entry) }
+        ≡ logic_and a (lent_by av.now au.now) b (lent_by bv.now bu.now) }
 {
     combine(true, a, av, au, b, bv, bu)
 }
@@ -101,7 +103,7 @@ pub fn logic_and(
 // 1 if either operand is true, 0 if both are false, else x.
 pub fn logic_or(a: Operand, av: &[u64], au: &[u64], b: Operand, bv: &[u64], bu: &[u64]) -> BitAnswer
     ensures { bit_answer result
-        ≡ logic_or a (lent_by av.entry au.entry) b (lent_by bv.entry bu.entry) }
+        ≡ logic_or a (lent_by av.now au.now) b (lent_by bv.now bu.now) }
 {
     combine(false, a, av, au, b, bv, bu)
 }

@@ -1,4 +1,6 @@
 // A vector's header, the operand of equality and truth, what an entry answers, and the checks of planes and operands.
+#![tactic(auto)]
+
 ghost use Rattle.std.specs.Prelude.{◌≡◌};
 ghost use Rattle.refusal.specs.Outcome.{verdict};
 ghost use Rattle.words.specs.Planes.{lent_by};
@@ -12,7 +14,7 @@ use words::Word;
 pub const MAX_WIDTH: u32 = 1_048_576;
 
 #[repr(C)]
-#[derive(Drop)]
+#[derive(Clone, Copy)]
 pub struct Header {
     pub width: u32,
     pub is_signed: bool,
@@ -20,28 +22,28 @@ pub struct Header {
 }
 
 // A vector's header, or a real; the planes come beside it, empty for a real.
-#[derive(Drop)]
+#[derive(Clone, Copy)]
 pub enum Operand {
     Vector(Header),
     Real(f64),
 }
 
 // A bit of a vector, or the bit that an operator answers with.
-#[derive(Drop)]
+#[derive(Clone, Copy)]
 pub enum BitAnswer {
     Bit(LogicBit),
     Refused(Refusal),
 }
 
 // A word of both planes.
-#[derive(Drop)]
+#[derive(Clone, Copy)]
 pub enum WordAnswer {
     Bits(Word),
     Refused(Refusal),
 }
 
 // The header of a vector that was written into lent planes.
-#[derive(Drop)]
+#[derive(Clone, Copy)]
 pub enum VectorAnswer {
     Vector(Header),
     Refused(Refusal),
@@ -49,7 +51,7 @@ pub enum VectorAnswer {
 
 // Whether the width and the planes' lengths are in order: 1, then 2.
 pub fn check_lengths(width: u32, value: &[u64], unknown: &[u64]) -> Verdict
-    ensures { verdict result ≡ check_lengths width (lent_by value.entry unknown.entry) }
+    ensures { verdict result ≡ check_lengths width (lent_by value.now unknown.now) }
 {
     if MAX_WIDTH < width {
         return Verdict::Refused(Refusal::TooWide);
@@ -66,7 +68,7 @@ pub fn check_lengths(width: u32, value: &[u64], unknown: &[u64]) -> Verdict
 
 // Whether the planes may be those of a vector of that width: 1, then 2, then 3.
 pub fn check_planes(width: u32, value: &[u64], unknown: &[u64]) -> Verdict
-    ensures { verdict result ≡ check_planes width (lent_by value.entry unknown.entry) }
+    ensures { verdict result ≡ check_planes width (lent_by value.now unknown.now) }
 {
     match check_lengths(width, value, unknown) {
         Verdict::Refused(r) => Verdict::Refused(r),
@@ -84,7 +86,7 @@ pub fn check_planes(width: u32, value: &[u64], unknown: &[u64]) -> Verdict
 
 // Whether a vector may be an operand: 1, 2, 3, then 4.
 pub fn check_vector(h: Header, value: &[u64], unknown: &[u64]) -> Verdict
-    ensures { verdict result ≡ check_vector h (lent_by value.entry unknown.entry) }
+    ensures { verdict result ≡ check_vector h (lent_by value.now unknown.now) }
 {
     let width = h.width;
     match check_planes(width, value, unknown) {
@@ -103,7 +105,7 @@ pub fn check_vector(h: Header, value: &[u64], unknown: &[u64]) -> Verdict
 // Whether two vectors may be operands: 1 to 4 for the left one, then for the right one.
 pub fn check_pair(a: Header, av: &[u64], au: &[u64], b: Header, bv: &[u64], bu: &[u64]) -> Verdict
     ensures { verdict result
-        ≡ check_pair a (lent_by av.entry au.entry) b (lent_by bv.entry bu.entry) }
+        ≡ check_pair a (lent_by av.now au.now) b (lent_by bv.now bu.now) }
 {
     match check_vector(a, av, au) {
         Verdict::Refused(r) => Verdict::Refused(r),
@@ -113,7 +115,7 @@ pub fn check_pair(a: Header, av: &[u64], au: &[u64], b: Header, bv: &[u64], bu: 
 
 // Whether an operand is in order: a vector by 1 to 4, a real by 2 if a plane is not empty.
 pub fn check_operand(o: Operand, value: &[u64], unknown: &[u64]) -> Verdict
-    ensures { verdict result ≡ check_operand o (lent_by value.entry unknown.entry) }
+    ensures { verdict result ≡ check_operand o (lent_by value.now unknown.now) }
 {
     match o {
         Operand::Vector(h) => check_vector(h, value, unknown),
@@ -131,7 +133,7 @@ pub fn check_operand(o: Operand, value: &[u64], unknown: &[u64]) -> Verdict
 
 // Whether output planes are exactly the words of a result of that width, or 5.
 pub fn check_output(width: u32, value: &[u64], unknown: &[u64]) -> Verdict
-    ensures { verdict result ≡ check_output width (lent_by value.entry unknown.entry) }
+    ensures { verdict result ≡ check_output width (lent_by value.now unknown.now) }
 {
     let count = words::word_count(width);
     if value.len() != count {

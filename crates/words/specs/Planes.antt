@@ -1,6 +1,5 @@
 -- Document 01, "Planes": a vector as two lists of 64-bit words, value and unknown, and back.
 use Rattle.std.specs.Prelude.{◌≡◌, Bool, true, ◌&&◌, List, [], ◌∷◌, ℕ, zero, suc, ◌+◌, ◌-◌, ◌*◌, ◌/◌, ◌%◌, ◌^◌, ◌≤◌, ◌<◌, min, eqb, length, get_or, drop}
-use Rattle.std.specs.Borrow.{Bor}
 use Rattle.bit.specs.declared.LogicBit.{LogicBit}
 use Rattle.bit.specs.declared.LogicBit.TheVariants.{Zero, One, X, Z}
 use Rattle.words.specs.declared.Word.{Word}
@@ -102,9 +101,9 @@ pub record Planes : Type 0 where
 abbrev pub lent : List ℕ → List ℕ → Planes
 lent v u = record { value = v; unknown = u }
 
--- by the references
-abbrev pub lent_by : (value unknown : Bor (List ℕ)) → Planes
-lent_by v u = lent v.now u.now
+-- by what is lent
+abbrev pub lent_by : (value unknown : List ℕ) → Planes
+lent_by v u = lent v u
 
 abbrev pub vector_of : ℕ → Planes → List LogicBit
 vector_of w p = from_planes w p.value p.unknown

@@ -1,4 +1,6 @@
 // A vector as planes of 64-bit words: the pair of words, the word count, and the functions and laws on words that all others use.
+#![tactic(auto)]
+
 ghost use Rattle.std.specs.Prelude.{◌≡◌};
 ghost use Rattle.words.specs.Planes.{word_count};
 
@@ -6,7 +8,7 @@ pub mod unchecked;
 
 // A word of the value plane and the word of the unknown plane beside it.
 #[repr(C)]
-#[derive(Drop)]
+#[derive(Clone, Copy)]
 pub struct Word {
     pub value: u64,
     pub unknown: u64,

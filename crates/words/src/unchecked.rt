@@ -109,7 +109,7 @@ pub fn extend_into(
     requires value_len { (length value.old ≡ word_count width) × (length unknown.old ≡ word_count width) }
     requires from_width_in_bounds { (word_count from_width ≤ length from_value.now)
         × (word_count from_width ≤ length from_unknown.now) }
-    ensures { lent_by value.exit unknown.exit
+    ensures { lent_by value.new unknown.new
         ≡ planes_of
         (tabulate width
         (λ i. get_or (from_planes from_width from_value.now from_unknown.now) i beyond)) }

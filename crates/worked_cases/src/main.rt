@@ -7,6 +7,8 @@
 //
 // makes the first of these, and so the others: constructors, vectors, answer_bits. Decisions and arms have none: the reference tells no
 // rule and hands back no arm.
+#![tactic(auto)]
+
 mod answer_bits;
 mod arms;
 mod bits;
