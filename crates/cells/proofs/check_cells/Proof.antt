@@ -18,11 +18,11 @@ use Rattle.cells.proofs.Walk.{Left, left-start, left-more, left-wrong, left-done
 use Rattle.cells.proofs.check_cells.Statement.{statement}
 use Rattle.cells.proofs.check_cells.Tie as tie
 
-abbrev invariant-loop : tie.invariant-loop
+abbrev invariant-loop : tie.invariant-loop-i
 invariant-loop count value unknown cells at₀ i₀ at i =
     (count ≤ 320) × (length value ≡ length unknown) × (i ≤ count) × (at ≤ length value) × Left (lent value unknown) cells count i at
 
-abbrev decreases-loop : tie.decreases-loop
+abbrev decreases-loop : tie.decreases-loop-i
 decreases-loop count value unknown cells at₀ i₀ at i = count - i
 
 abbrev arenas : tie.Start invariant-loop decreases-loop → Planes
@@ -30,107 +30,103 @@ arenas st = lent st.args.value.now st.args.unknown.now
 
 -- the answer once the cells agree
 abbrev counted : tie.Start invariant-loop decreases-loop → Answer ℕ
-counted st = given (word_behind (take st.args.count st.args.t1))
+counted st = given (word_behind (take st.args.count st.args.cells))
 
-places : (st : tie.Start invariant-loop decreases-loop) → length st.args.t1 ≡ 320
-places st = st.well-formed.0.1.0.1
+places : (st : tie.Start invariant-loop decreases-loop) → length st.args.cells ≡ 320
+places st = st.well_formed.0.1.0.1
 
 -- in a turn, once the cell is checked
-module _ (a : tie.After-cell-agrees invariant-loop decreases-loop) where
-  abbrev l : tie.At-loop invariant-loop decreases-loop
+module _ (a : tie.After-cell_agrees invariant-loop decreases-loop) where
+  abbrev l : tie.At-loop-i invariant-loop decreases-loop
   l = a.before.before.before
 
   abbrev st : tie.Start invariant-loop decreases-loop
   st = l.before.before.before.before
 
   abbrev cell : Cell
-  cell = get_or st.args.t1 l.loop.i no_cell
+  cell = get_or st.args.cells l.loop-i.i no_cell
 
-  whole : st.args.count ≤ length st.args.t1
-  whole = omega (arith, places st, l.loop.inv.0)
+  whole : st.args.count ≤ length st.args.cells
+  whole = omega (arith, places st, l.loop-i.invariant.0)
 
-  told : (b : Bool) → a.cell-agrees.result ≡ b → cell_agrees (arenas st) l.loop.at cell ≡ b
-  told b e = sym a.cell-agrees.ensures ∙ e
+  told : (b : Bool) → a.cell_agrees.result ≡ b → cell_agrees (arenas st) l.loop-i.at cell ≡ b
+  told b e = sym a.cell_agrees.ensures ∙ e
 
-returns : tie.Need-returns invariant-loop decreases-loop
-returns c = let st = c.before.before.before in misfit (arenas st) st.args.t1 st.args.count (counted st) c.if1.true
+returns : tie.Need-returns-then-count-value invariant-loop decreases-loop
+returns c = misfit (arenas c.before.before.before) c.args.cells c.args.count (counted c.before.before.before) c.if-count-value.true
 
-loop-holds : tie.Need-loop-init invariant-loop decreases-loop
+loop-holds : tie.Need-loop-i-init invariant-loop decreases-loop
 loop-holds c =
-    let st = c.before.before.before in
-    let f = fit st.args.count (length st.args.value.now) (length st.args.unknown.now) c.if1.false in
-    (f.0, f.1, omega arith, omega arith, left-start (arenas st) st.args.t1 st.args.count)
+    let f = fit c.args.count (length c.args.value.now) (length c.args.unknown.now) c.if-count-value.false in
+    (f.0, f.1, omega arith, omega arith, left-start (arenas c.before.before.before) c.args.cells c.args.count)
 
-mul-c : tie.Need-overflow-mul-c invariant-loop decreases-loop
+mul-c : tie.Need-offset_bounds-cells-i invariant-loop decreases-loop
 mul-c c = search rules
 
-array-copy-out-c : tie.Need-array-copy-out-c invariant-loop decreases-loop
+array-copy-out-c : tie.Need-bounds-cells-i invariant-loop decreases-loop
 array-copy-out-c c = search rules
 
-cell-agrees-requires : tie.Need-cell-agrees-requires invariant-loop decreases-loop
+cell-agrees-requires : tie.Need-cell_agrees-requires invariant-loop decreases-loop
 cell-agrees-requires c κs = search rules
 
-returns-2 : tie.Need-returns-2 invariant-loop decreases-loop
+returns-2 : tie.Need-returns-then-not-cell_agrees invariant-loop decreases-loop
 returns-2 c =
-    let a = c.before in
-    let t = st a in
-    cell-wrong (arenas t) t.args.t1 t.args.count (counted t) (l a).loop.invariant.0 (l a).loop.invariant.1
-    (left-wrong (arenas t) t.args.t1 t.args.count (l a).loop.i (l a).loop.at (whole a) (l a).loop.invariant.4 no_cell a.before.before.loop-test.true
-    (told a false (not-true _ c.if2.true)))
+    let t = st c.before in
+    cell-wrong (arenas t) t.args.cells t.args.count (counted t) (l c.before).loop.invariant.0 (l c.before).loop.invariant.1
+    (left-wrong (arenas t) t.args.cells t.args.count (l c.before).loop.i (l c.before).loop.at (whole c.before) (l c.before).loop.invariant.4 no_cell c.loop-i-test.true
+    (told c.before false (not-true _ c.if-not-cell_agrees.true-raw)))
 
-word-count-requires : tie.Need-word-count-requires invariant-loop decreases-loop
+word-count-requires : tie.Need-word_count-at-requires invariant-loop decreases-loop
 word-count-requires c κs = search rules
 
-add_at : tie.Need-overflow-add-at invariant-loop decreases-loop
+add_at : tie.Need-overflow_add-at invariant-loop decreases-loop
 add_at c =
-    let a = c.before.before.before in
-    let f = cell-fits (arenas (st a)) (l a).loop.at (cell a) (told a true (not-false _ c.before.before.if2.false)) in
-    omega (arith, f.begins, f.within, c.word_count.ensures)
+    let f = cell-fits (arenas (st a)) (l c.before.before.before).loop.at (cell c.before.before.before) (told c.before.before.before true (not-false _ c.if-not-cell_agrees.false-raw)) in
+    omega (arith, f.begins, f.within, c.word_count-at.ensures)
 
-add-i : tie.Need-overflow-add-i invariant-loop decreases-loop
+add-i : tie.Need-overflow_add-i invariant-loop decreases-loop
 add-i c = search rules
 
-loop-less : tie.Need-loop-smaller invariant-loop decreases-loop
+loop-less : tie.Need-loop-i-smaller invariant-loop decreases-loop
 loop-less c = search rules
 
-loop-again : tie.Need-loop-preserved invariant-loop decreases-loop
+loop-again : tie.Need-loop-i-preserved invariant-loop decreases-loop
 loop-again c =
-    let a = c.before.before.before in
-    let t = st a in
-    let e = told a true (not-false _ c.before.before.if2.false) in
-    let f = cell-fits (arenas t) (l a).loop.at (cell a) e in (
-      (l a).loop.invariant.0,
-      (l a).loop.invariant.1,
+    let t = st c.before.before.before in
+    let e = told c.before.before.before true (not-false _ c.if-not-cell_agrees.false-raw) in
+    let f = cell-fits (arenas t) (l c.before.before.before).loop.at (cell c.before.before.before) e in (
+      (l c.before.before.before).loop.invariant.0,
+      (l c.before.before.before).loop.invariant.1,
       search rules,
-      omega (arith, f.begins, f.within, c.word_count.ensures),
-      left-more (arenas t) t.args.t1 t.args.count (l a).loop.i (l a).loop.at (whole a) (l a).loop.invariant.4 no_cell
-          a.before.before.loop-test.true e ((l a).loop.at + c.word_count.result) (omega (arith, c.word_count.ensures)),
+      omega (arith, f.begins, f.within, c.word_count-at.ensures),
+      left-more (arenas t) t.args.cells t.args.count (l c.before.before.before).loop.i (l c.before.before.before).loop.at (whole c.before.before.before) (l c.before.before.before).loop.invariant.4 no_cell
+          c.loop-i-test.true e ((l c.before.before.before).loop.at + c.word_count-at.result) (omega (arith, c.word_count-at.ensures)),
     )
 
 -- every cell agrees
-module _ (c : tie.After-loop invariant-loop decreases-loop) where
-  abbrev m : tie.At-loop invariant-loop decreases-loop
+module _ (c : tie.After-loop-i invariant-loop decreases-loop) where
+  abbrev m : tie.At-loop-i invariant-loop decreases-loop
   m = c.before
 
   abbrev t : tie.Start invariant-loop decreases-loop
   t = m.before.before.before.before
 
   abbrev filled : List Cell
-  filled = take t.args.count t.args.t1
+  filled = take t.args.count t.args.cells
 
-  done : (m.loop.at ≡ word_behind filled) × (cells_agree (arenas t) 0 filled ≡ true)
+  done : (m.loop-i.at ≡ word_behind filled) × (cells_agree (arenas t) 0 filled ≡ true)
   done =
-      let h : t.args.count ≤ length t.args.t1 = omega (arith, places t, m.loop.inv.0) in
-      left-done (arenas t) t.args.t1 t.args.count m.loop.i m.loop.at h m.loop.inv.4 c.loop-test.false
+      let h : t.args.count ≤ length t.args.cells = omega (arith, places t, m.loop-i.invariant.0) in
+      left-done (arenas t) t.args.cells t.args.count m.loop-i.i m.loop-i.at h m.loop-i.invariant.4 c.loop-i-test.false
 
-  right : counted t ≡ after (check_cells (arenas t) t.args.t1 t.args.count) (counted t)
-  right = all_right (arenas t) t.args.t1 t.args.count (counted t) m.loop.inv.0 m.loop.inv.1 done.1
+  right : counted t ≡ after (check_cells (arenas t) t.args.cells t.args.count) (counted t)
+  right = all_right (arenas t) t.args.cells t.args.count (counted t) m.loop-i.invariant.0 m.loop-i.invariant.1 done.1
 
-returns-3 : tie.Need-returns-3 invariant-loop decreases-loop
+returns-3 : tie.Need-returns invariant-loop decreases-loop
 returns-3 c = ap given (done c).0 ∙ right c
 
-pub check-cells-spec : {M : Type 1} → statement M
-check-cells-spec =
+pub check_cells_spec : {M : Type 1} → statement M
+check_cells_spec =
     tie.close
     (tie.spec
     invariant-loop

@@ -12,38 +12,36 @@ use Rattle.ffi_bit_by_bit.proofs.Scan.{Read, start, more, found, done}
 use Rattle.ffi_bit_by_bit.proofs.truth_bits.Statement.{statement}
 use Rattle.ffi_bit_by_bit.proofs.truth_bits.Tie as tie
 
-abbrev invariant-loop : tie.invariant-loop
+abbrev invariant-loop : tie.invariant-loop-i
 invariant-loop width value unknown w seen₀ i₀ seen i = (i ≤ width) × Read (from_planes width value unknown) seen i
 
-abbrev decreases-loop : tie.decreases-loop
+abbrev decreases-loop : tie.decreases-loop-i
 decreases-loop width value unknown w seen₀ i₀ seen i = width - i
 
-loop-holds : tie.Need-loop-init invariant-loop decreases-loop
+loop-holds : tie.Need-loop-i-init invariant-loop decreases-loop
 loop-holds c = (omega arith, start _)
 
-returns : tie.Need-returns invariant-loop decreases-loop
+returns : tie.Need-returns-then-c-eq1 invariant-loop decreases-loop
 returns c =
-    let t = c.before in
-    found _ t.before.before.before.loop.invariant.1 (t.to-code.ensures ∙ ap code t.before.get.ensures) c.if1.true
+    found _ c.loop-i.invariant.1 (c.to_code-c.ensures ∙ ap code c.get.ensures) c.if-c-eq1.true
 
-loop-again : tie.Need-loop-preserved invariant-loop decreases-loop
+loop-again : tie.Need-loop-i-preserved invariant-loop decreases-loop
 loop-again c =
-    let t = c.before in
-    (omega arith, more _ t.before.before.before.loop.invariant.1 (t.to-code.ensures ∙ ap code t.before.get.ensures) c.if1.false)
+    (omega arith, more _ c.loop-i.invariant.1 (c.to_code-c.ensures ∙ ap code c.get.ensures) c.if-c-eq1.false)
 
 -- the loop ends behind the last bit
-all_read : (c : tie.After-loop invariant-loop decreases-loop) → let a = c.before.before.before.before.args in
-    length (from_planes a.width a.value.now a.unknown.now) ≤ c.before.loop.i
+all_read : (c : tie.After-loop-i invariant-loop decreases-loop) → let a = c.args in
+    length (from_planes a.width a.value.now a.unknown.now) ≤ c.loop-i.i
 all_read c = rw length-tabulate (omega arith)
 
-returns-2 : tie.Need-returns-2 invariant-loop decreases-loop
-returns-2 c = done _ c.before.before.loop.invariant.1 (all_read c.before) true c.if2.true
+returns-2 : tie.Need-returns-then-seen invariant-loop decreases-loop
+returns-2 c = done _ c.loop-i.invariant.1 (all_read c.before) true c.if-seen.true
 
-returns-3 : tie.Need-returns-3 invariant-loop decreases-loop
-returns-3 c = done _ c.before.before.loop.invariant.1 (all_read c.before) false c.if2.false
+returns-3 : tie.Need-returns invariant-loop decreases-loop
+returns-3 c = done _ c.loop-i.invariant.1 (all_read c.before) false c.if-seen.false
 
-pub truth-bits-spec : {M : Type 1} → statement M
-truth-bits-spec =
+pub truth_bits_spec : {M : Type 1} → statement M
+truth_bits_spec =
     tie.close
     (tie.spec
     invariant-loop

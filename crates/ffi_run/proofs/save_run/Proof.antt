@@ -11,23 +11,21 @@ use Rattle.ffi_run.proofs.save_run.Statement.{statement}
 use Rattle.ffi_run.proofs.save_run.Tie as tie
 
 -- the fields by what the test says
-abbrev saved : tie.After-end-number → Bool → Fields
+abbrev saved : tie.After-end_number → Bool → Fields
 saved t b = let g = t.before.args in cond b (fields_by g.starts g.widths g.signs g.fills) (fields_of g.r.store.cells)
 
-end-number-requires : tie.Need-end-number-requires
+end-number-requires : tie.Need-end_number-requires
 end-number-requires c κs = search rules
 
-returns : tie.Need-returns
-returns c = ap (saved c.before) (sym (eq-eqb _ _ c.if1.true)) ∙ ap (λ (n : ℕ). saved c.before (eqb n 6)) c.before.end-number.ensures
+returns : tie.Need-returns-then-end_number-eq6
+returns c = ap (saved c.before) (sym (eq-eqb _ _ c.if-end_number-eq6.true)) ∙ ap (λ (n : ℕ). saved c.before (eqb n 6)) c.end_number.ensures
 
 save-requires : tie.Need-save-requires
 save-requires c κs = search rules
 
-returns-2 : tie.Need-returns-2
+returns-2 : tie.Need-returns
 returns-2 c =
-    let e = c.before.before.before.before.before in
-    let t = e.before in
-    c.save.ensures ∙ ap (saved t) (sym (ne_eqb _ _ e.if1.false)) ∙ ap (λ (n : ℕ). saved t (eqb n 6)) t.end-number.ensures
+    c.save.ensures ∙ ap (saved c.before.before.before.before.before.before.before) (sym (ne_eqb _ _ c.if-end_number-eq6.false)) ∙ ap (λ (n : ℕ). saved c.before.before.before.before.before.before.before (eqb n 6)) c.end_number.ensures
 
-pub save-run-spec : {M : Type 1} → statement M
-save-run-spec = tie.close (tie.spec end-number-requires returns save-requires returns-2)
+pub save_run_spec : {M : Type 1} → statement M
+save_run_spec = tie.close (tie.spec end-number-requires returns save-requires returns-2)

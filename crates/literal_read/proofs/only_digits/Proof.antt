@@ -13,48 +13,47 @@ use Rattle.literal_read.proofs.Runs.{each-off, each_on, each-done}
 use Rattle.literal_read.proofs.only_digits.Statement.{statement}
 use Rattle.literal_read.proofs.only_digits.Tie as tie
 
-abbrev invariant-loop : tie.invariant-loop
+abbrev invariant-loop : tie.invariant-loop-i
 invariant-loop s from below unknown i₀ i = each (follows below unknown) (drop from s) ≡ each (follows below unknown) (drop i s)
 
-abbrev decreases-loop : tie.decreases-loop
+abbrev decreases-loop : tie.decreases-loop-i
 decreases-loop s from below unknown i₀ i = length s - i
 
 -- the test of the byte at the place reached
-module _ (c : tie.After-is-unknown invariant-loop decreases-loop) where
-  abbrev at : tie.At-loop invariant-loop decreases-loop
+module _ (c : tie.After-is_unknown invariant-loop decreases-loop) where
+  abbrev at : tie.At-loop-i invariant-loop decreases-loop
   at = c.before.before.before.before
 
-  within : at.loop.i < length at.before.before.args.s.now
-  within = c.before.before.before.loop-test.true
+  within : at.loop-i.i < length at.args.s.now
+  within = c.loop-i-test.true
 
-  tested : let a = at.before.before.args in let x = get_or a.s.now at.loop.i 0 in
-      ((ltb c.before.digit-number.result a.below || (a.unknown && c.is-unknown.result)) || eqb x 95) ≡ follows a.below a.unknown x
+  tested : let a = at.args in let x = get_or a.s.now at.loop-i.i 0 in
+      ((ltb c.digit_number.result a.below || (a.unknown && c.is_unknown.result)) || eqb x 95) ≡ follows a.below a.unknown x
   tested =
-      let a = at.before.before.args in
-      ap₂ (λ (n : ℕ) (u : Bool). (ltb n a.below || (a.unknown && u)) || eqb (get_or a.s.now at.loop.i 0) 95)
-      c.before.digit-number.ensures c.is-unknown.ensures
+      let a = at.args in
+      ap₂ (λ (n : ℕ) (u : Bool). (ltb n a.below || (a.unknown && u)) || eqb (get_or a.s.now at.loop-i.i 0) 95)
+      c.digit_number.ensures c.is_unknown.ensures
 
-returns : tie.Need-returns invariant-loop decreases-loop
+returns : tie.Need-returns-then-not-digit_number-below invariant-loop decreases-loop
 returns c =
     let l = at c.before in
-    let a = l.before.before.args in
-    sym (l.loop.inv
-    ∙ each-off (follows a.below a.unknown) a.s.now l.loop.i (within c.before) (sym (tested c.before) ∙ not-true _ c.if1.true))
+    let a = l.args in
+    sym (l.loop-i.invariant
+    ∙ each-off (follows a.below a.unknown) a.s.now l.loop-i.i (within c.before) (sym (tested c.before) ∙ not-true _ c.if-not-digit_number-below.true-raw))
 
-loop-again : tie.Need-loop-preserved invariant-loop decreases-loop
+loop-again : tie.Need-loop-i-preserved invariant-loop decreases-loop
 loop-again c =
     let l = at c.before in
-    let a = l.before.before.args in
-    l.loop.inv ∙ each_on (follows a.below a.unknown) a.s.now l.loop.i (within c.before) (sym (tested c.before) ∙ not-false _ c.if1.false)
+    let a = l.args in
+    l.loop-i.invariant ∙ each_on (follows a.below a.unknown) a.s.now l.loop-i.i (within c.before) (sym (tested c.before) ∙ not-false _ c.if-not-digit_number-below.false-raw)
 
-returns-2 : tie.Need-returns-2 invariant-loop decreases-loop
+returns-2 : tie.Need-returns invariant-loop decreases-loop
 returns-2 c =
-    let l = c.before in
-    let a = l.before.before.args in
-    sym (l.loop.invariant ∙ each-done (follows a.below a.unknown) a.s.now l.loop.i c.loop-test.false)
+    let a = c.args in
+    sym (c.loop-i.invariant ∙ each-done (follows a.below a.unknown) a.s.now c.loop-i.i c.loop-i-test.false)
 
-pub only-digits-spec : {M : Type 1} → statement M
-only-digits-spec =
+pub only_digits_spec : {M : Type 1} → statement M
+only_digits_spec =
     tie.close
     (tie.spec
     invariant-loop

@@ -25,74 +25,66 @@ byte-most : (b : Bool) → bool_byte b ≤ 1
 byte-most true = omega arith
 byte-most false = omega arith
 
-returns : tie.Need-returns
+returns : tie.Need-returns-then-width-eq0
 returns c =
-    let z = c.before.read-size in
-    none (sym z.ensures ∙ no-size c.before.before.before.args.s.now z.result c.if1.true)
+    let z = c.read_size-size in
+    none (sym z.ensures ∙ no-size c.args.s.now z.result c.if-width-eq0.true)
 
 -- behind the apostrophe
-behind : (c : tie.Else1) → let z = c.before.read-size.result in let s = c.before.before.before.args.s.now in
+behind : (c : tie.Else-width-eq0) → let z = c.read_size-size.result in let s = c.args.s.now in
     literal s ≡ signed_based z.width (drop z.next s)
 behind c =
-    let z = c.before.read-size in
-    sym z.ensures ∙ a-size c.before.before.before.args.s.now z.result c.if1.false
+    let z = c.read_size-size in
+    sym z.ensures ∙ a-size c.args.s.now z.result c.if-width-eq0.false
 
-returns-2 : tie.Need-returns-2
-returns-2 c = none (behind c.before ∙ sign-ends _ _ _ c.if2.true)
+returns-2 : tie.Need-returns-then-s-sign
+returns-2 c = none (behind c.before ∙ sign-ends _ _ _ c.if-s-sign.true)
 
 -- behind the sign
-module _ (c : tie.After-is-sign) where
-  abbrev one : tie.Else1
+module _ (c : tie.After-is_sign-is_signed) where
+  abbrev one : tie.Else-width-eq0
   one = c.before.before.before
 
   abbrev s : List ℕ
-  s = one.before.before.before.args.s.now
+  s = one.args.s.now
 
   abbrev mark : Bool
-  mark = c.is-sign.result
+  mark = c.is_sign-is_signed.result
 
   abbrev place : ℕ
-  place = one.before.read-size.result.next + bool_byte mark
+  place = one.read_size-size.result.next + bool_byte mark
 
-  signed : literal s ≡ based one.before.read-size.result.width mark (drop place s)
-  signed = behind one ∙ sign_read _ s _ c.before.before.if2.false mark (sym c.is-sign.ensures)
+  signed : literal s ≡ based one.read_size-size.result.width mark (drop place s)
+  signed = behind one ∙ sign_read _ s _ c.if-s-sign.false mark (sym c.is_sign-is_signed.ensures)
 
-add_at : tie.Need-overflow-add-at
+add_at : tie.Need-overflow_add-at
 add_at c = omega (arith, byte-most (mark c))
 
-returns-3 : tie.Need-returns-3
-returns-3 c = none (signed c.before ∙ base-ends _ _ _ _ c.if3.true)
+returns-3 : tie.Need-returns-then-s-at
+returns-3 c = none (signed c.before ∙ base-ends _ _ _ _ c.if-s-at.true)
 
-returns-4 : tie.Need-returns-4
+returns-4 : tie.Need-returns-then-not-is_base
 returns-4 c =
-    let b = c.before in
-    let d = b.before.before in
-    none (signed d.before ∙ base-other _ _ _ _ d.if3.false (sym b.is_base.ensures ∙ not-true _ c.if4.true))
+    none (signed c.before.before.before.before ∙ base-other _ _ _ _ c.if-s-at.false (sym c.is_base.ensures ∙ not-true _ c.if-not-is_base.true-raw))
 
-returns-5 : tie.Need-returns-5
+returns-5 : tie.Need-returns-then-not-is_value
 returns-5 c =
-    let v = c.before in
-    let b = v.before.before in
-    let d = b.before.before in
     none
-    (signed d.before
-    ∙ value-other _ _ _ _ d.if3.false (sym b.is_base.ensures ∙ not-false _ v.before.if4.false) (sym v.is-value.ensures ∙ not-true _ c.if5.true))
+    (signed c.before.before.before.before.before.before
+    ∙ value-other _ _ _ _ c.if-s-at.false (sym c.is_base.ensures ∙ not-false _ c.if-not-is_base.false-raw) (sym c.is_value.ensures ∙ not-true _ c.if-not-is_value.true-raw))
 
-returns-6 : tie.Need-returns-6
+returns-6 : tie.Need-returns
 returns-6 c =
-    let v = c.before in
-    let b = v.before.before in
-    let d = b.before.before in
-    let f = sym v.is-value.ensures ∙ not-false _ c.if5.false in
-    let z = (one d.before).before.read-size.result in
-    let t = s d.before in
-    let i = place d.before in
-    let e = base_read z.width (mark d.before) t i d.if3.false (sym b.is_base.ensures ∙ not-false _ v.before.if4.false) f in
-    let l : Literal = record { width = z.width; is_signed = mark d.before; base = get_or t i 0; value = i + 1 } in
-    (a-literal t l (one d.before).if1.left ∙ sym (signed d.before ∙ e), λ k. f)
+    let f = sym c.is_value.ensures ∙ not-false _ c.if-not-is_value.false-raw in
+    let z = (one c.before.before.before.before.before.before).before.read-size.result in
+    let t = s c.before.before.before.before.before.before in
+    let i = place c.before.before.before.before.before.before in
+    let e = base_read z.width (mark c.before.before.before.before.before.before) t i c.if-s-at.false (sym c.is_base.ensures ∙ not-false _ c.if-not-is_base.false-raw) f in
+    let l : Literal = record { width = z.width; is_signed = mark c.before.before.before.before.before.before; base = get_or t i 0; value = i + 1 } in
+    (a-literal t l (one c.before.before.before.before.before.before).if1.left ∙ sym (signed c.before.before.before.before.before.before ∙ e), λ k. f)
 
-pub parts-spec : {M : Type 1} → statement M
-parts-spec =
+pub parts_spec : {M : Type 1} → statement M
+parts_spec =
     tie.close
     (tie.spec
     (λ c κs. search rules)

@@ -13,83 +13,78 @@ use Rattle.literal_read.proofs.Sizes.{size_left, size-range, size-begins, size-e
 use Rattle.literal_read.proofs.read_size.Statement.{statement}
 use Rattle.literal_read.proofs.read_size.Tie as tie
 
-abbrev invariant-loop : tie.invariant-loop
+abbrev invariant-loop : tie.invariant-loop-i
 invariant-loop s width₀ i₀ width i = (width ≤ 4096) × (literal s ≡ size_left width (drop i s))
 
-abbrev decreases-loop : tie.decreases-loop
+abbrev decreases-loop : tie.decreases-loop-i
 decreases-loop s width₀ i₀ width i = length s - i
 
-loop-holds : tie.Need-loop-init invariant-loop decreases-loop
+loop-holds : tie.Need-loop-i-init invariant-loop decreases-loop
 loop-holds c = (omega arith, size-begins c.args.s.now)
 
 -- the byte that is read
-module _ (c : tie.After-shared-slice-known invariant-loop decreases-loop) where
-  abbrev at : tie.At-loop invariant-loop decreases-loop
+module _ (c : tie.After-shared_slice_known-1 invariant-loop decreases-loop) where
+  abbrev at : tie.At-loop-i invariant-loop decreases-loop
   at = c.before.before
 
-  turn : let s = at.before.args.s.now in
-      literal s ≡ size_left at.loop.width (get_or s at.loop.i 0 ∷ drop (at.loop.i + 1) s)
-  turn = let s = at.before.args.s.now in
-      at.loop.inv.1 ∙ ap (size_left at.loop.width) (rw add-one (drop-cons s at.loop.i 0 c.before.loop-test.true))
+  turn : let s = at.args.s.now in
+      literal s ≡ size_left at.loop-i.width (get_or s at.loop-i.i 0 ∷ drop (at.loop-i.i + 1) s)
+  turn = let s = at.args.s.now in
+      at.loop-i.invariant.1 ∙ ap (size_left at.loop-i.width) (rw add-one (drop-cons s at.loop-i.i 0 c.loop-i-test.true))
 
 -- it is a digit
-module _ (c : tie.Else3 invariant-loop decreases-loop) where
-  abbrev byte : tie.After-shared-slice-known invariant-loop decreases-loop
+module _ (c : tie.Else-c-width-2 invariant-loop decreases-loop) where
+  abbrev byte : tie.After-shared_slice_known-1 invariant-loop decreases-loop
   byte = c.before.before.before
 
   range : let x = get_or (at byte).before.args.s.now (at byte).loop.i 0 in (48 ≤ x) × (x ≤ 57)
-  range = size-range (at byte).loop.width _ c.if3.false
+  range = size-range (at byte).loop.width _ c.if-c-width-2.false
 
-returns : tie.Need-returns invariant-loop decreases-loop
-returns c = let l = at c.before in sym (turn c.before ∙ size-stops l.loop.width _ _ (eq-eqb _ 39 c.if1.true))
+returns : tie.Need-returns-then-c-eq39 invariant-loop decreases-loop
+returns c = let l = at c.before in sym (turn c.before ∙ size-stops l.loop-i.width _ _ (eq-eqb _ 39 c.if-c-eq39.true))
 
-returns-2 : tie.Need-returns-2 invariant-loop decreases-loop
+returns-2 : tie.Need-returns-then-c-width-2 invariant-loop decreases-loop
 returns-2 c =
-    let b = c.before.before.before in
-    sym (turn b ∙ size-other (at b).loop.width _ _ (ne_eqb _ 39 c.before.before.if1.false) c.before.if2.true c.if3.true)
+    sym (turn c.before.before.before ∙ size-other (at c.before.before.before).loop.width _ _ (ne_eqb _ 39 c.if-c-eq39.false) c.if-c-width.true c.if-c-width-2.true)
 
-mul-width : tie.Need-overflow-mul-width invariant-loop decreases-loop
+mul-width : tie.Need-overflow_mul-width invariant-loop decreases-loop
 mul-width c = omega arith
 
-sub-width : tie.Need-overflow-sub-width invariant-loop decreases-loop
+sub-width : tie.Need-overflow_sub-width invariant-loop decreases-loop
 sub-width c = (range c).0
 
-cast-width : tie.Need-overflow-cast-width invariant-loop decreases-loop
+cast-width : tie.Need-overflow_cast-width invariant-loop decreases-loop
 cast-width c = omega (arith, (range c).0, (range c).1)
 
-add-width : tie.Need-overflow-add-width invariant-loop decreases-loop
+add-width : tie.Need-overflow_add-width invariant-loop decreases-loop
 add-width c = omega (arith, (range c).0, (range c).1)
 
-returns-3 : tie.Need-returns-3 invariant-loop decreases-loop
+returns-3 : tie.Need-returns-then-width-gt-MAX_SIZE invariant-loop decreases-loop
 returns-3 c =
-    let d = c.before in
-    let b = byte d in
-    sym (turn b ∙ size-over (at b).loop.width _ _ (ne_eqb _ 39 d.before.before.if1.false) d.before.if2.true d.if3.false c.if4.true)
+    let b = byte c.before in
+    sym (turn b ∙ size-over (at b).loop.width _ _ (ne_eqb _ 39 c.if-c-eq39.false) c.if-c-width.true c.if-c-width-2.false c.if-width-gt-MAX_SIZE.true)
 
-loop-less : tie.Need-loop-smaller invariant-loop decreases-loop
+loop-less : tie.Need-loop-i-smaller-else-width-gt-MAX_SIZE invariant-loop decreases-loop
 loop-less c = omega arith
 
-loop-again : tie.Need-loop-preserved invariant-loop decreases-loop
+loop-again : tie.Need-loop-i-preserved-else-width-gt-MAX_SIZE invariant-loop decreases-loop
 loop-again c =
-    let d = c.before in
-    let b = byte d in
-    (c.if4.false, turn b ∙ size-digit (at b).loop.width _ _ (ne_eqb _ 39 d.before.before.if1.false) d.before.if2.true d.if3.false c.if4.false)
+    let b = byte c.before in
+    (c.if-width-gt-MAX_SIZE.false, turn b ∙ size-digit (at b).loop.width _ _ (ne_eqb _ 39 c.if-c-eq39.false) c.if-c-width.true c.if-c-width-2.false c.if-width-gt-MAX_SIZE.false)
 
-loop-less-2 : tie.Need-loop-smaller-2 invariant-loop decreases-loop
+loop-less-2 : tie.Need-loop-i-smaller invariant-loop decreases-loop
 loop-less-2 c = omega arith
 
-loop-again-2 : tie.Need-loop-preserved-2 invariant-loop decreases-loop
+loop-again-2 : tie.Need-loop-i-preserved invariant-loop decreases-loop
 loop-again-2 c =
-    let b = c.before.before in
-    ((at b).loop.invariant.0, turn b ∙ size-underscore (at b).loop.width _ _ (ne_eqb _ 39 c.before.if1.false) c.if2.false)
+    ((at c.before.before).loop.invariant.0, turn c.before.before ∙ size-underscore (at c.before.before).loop.width _ _ (ne_eqb _ 39 c.if-c-eq39.false) c.if-c-width.false)
 
-returns-4 : tie.Need-returns-4 invariant-loop decreases-loop
+returns-4 : tie.Need-returns invariant-loop decreases-loop
 returns-4 c =
-    let l = c.before in
-    sym (l.loop.invariant.1 ∙ ap (size_left l.loop.width) (drop_of_length-le l.before.args.s.now c.loop-test.false) ∙ size-ends l.loop.width)
+    sym (c.loop-i.invariant.1 ∙ ap (size_left c.loop-i.width) (drop_of_length-le c.args.s.now c.loop-i-test.false) ∙ size-ends c.loop-i.width)
 
-pub read-size-spec : {M : Type 1} → statement M
-read-size-spec =
+pub read_size_spec : {M : Type 1} → statement M
+read_size_spec =
     tie.close
     (tie.spec
     invariant-loop

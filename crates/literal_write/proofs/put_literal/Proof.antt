@@ -22,34 +22,25 @@ room s =
     let a = s.args in
     s.requires.1 ∙ length-literal a.width a.is_signed (bits s) (length-planes a.width a.value.now a.unknown.now)
 
-put-number-requires : tie.Need-put-number-requires
+put-number-requires : tie.Need-put_number-i-requires
 put-number-requires c κs = omega (arith, room c.before.before.before.before)
 
-put-base-requires : tie.Need-put-base-requires
+put-base-requires : tie.Need-put_base-j-requires
 put-base-requires c κs =
-    let n = c.before.before.before in
-    let s = n.before.before.before.before.before in
-    omega (arith, room s, place_of _ _ _ n.put-number.ensures, n.put-number.auto.0)
+    omega (arith, room c.before.before.before.before.before.before.before.before, place_of _ _ _ c.put_number-i.ensures, c.put_number-i.auto.0)
 
-put-bits-requires : tie.Need-put-bits-requires
+put-bits-requires : tie.Need-put_bits-requires
 put-bits-requires c κs =
-    let b = c.before.before.before in
-    let n = b.before.before.before.before in
-    let s = n.before.before.before.before.before in
-    let i = place_of _ _ _ n.put-number.ensures in
-    let j = place_of _ _ _ b.put-base.ensures in
-    (omega (arith, room s, n.put-number.auto.0, b.put-base.auto.0), s.requires.0)
+    let i = place_of _ _ _ c.put_number-i.ensures in
+    let j = place_of _ _ _ c.put_base-j.ensures in
+    (omega (arith, room c.before.before.before.before.before.before.before.before.before.before.before.before, c.put_number-i.auto.0, c.put_base-j.auto.0), c.requires.0)
 
 returns : tie.Need-returns
 returns c =
-    let v = c.before.before in
-    let b = v.before.before.before.before in
-    let n = b.before.before.before.before in
-    let s = n.before.before.before.before.before in
-    let a = s.args in
-    whole a.text.now _ s.requires.1
-    (three a.text.now 0 (decimal a.width) (base_text a.is_signed) (bit_digits (bits s)) n.put-number.ensures b.put-base.ensures
-    v.put-bits.ensures (omega arith))
+    let a = c.args in
+    whole a.text.now _ c.requires.1
+    (three a.text.now 0 (decimal a.width) (base_text a.is_signed) (bit_digits (bits c.before.before.before.before.before.before.before.before.before.before.before.before.before.before.before)) c.put_number-i.ensures c.put_base-j.ensures
+    c.put_bits.ensures (omega arith))
 
-pub put-literal-spec : {M : Type 1} → statement M
-put-literal-spec = tie.close (tie.spec put-number-requires put-base-requires put-bits-requires (λ c. search rules) returns)
+pub put_literal_spec : {M : Type 1} → statement M
+put_literal_spec = tie.close (tie.spec put-number-requires put-base-requires put-bits-requires (λ c. search rules) returns)

@@ -18,62 +18,53 @@ use Rattle.literal_write.proofs.write_literal.Statement.{statement}
 use Rattle.literal_write.proofs.write_literal.Tie as tie
 
 -- where `literal_length` has answered
-module _ (l : tie.After-literal-length) where
+module _ (l : tie.After-literal_length) where
   abbrev header : Header
-  header = l.before.before.before.before.before.before.before.args.h
+  header = l.args.h
 
   abbrev planes : Planes
-  planes = let a = l.before.before.before.before.before.before.before.args in lent a.value.now a.unknown.now
+  planes = let a = l.args in lent a.value.now a.unknown.now
 
   abbrev text : List ℕ
-  text = l.before.before.before.before.before.before.before.args.text.now
+  text = l.args.text.now
 
   accepted : check_vector header planes ≡ given tt
-  accepted = verdict-told l.before.before.before.check-vector.ensures l.before.enum_told.given.1
+  accepted = verdict-told l.check_vector.ensures l.in-Accepted.is
 
-  told : {a : LengthAnswer} → l.literal-length.result ≡ a → literal_length header ≡ length_answer a
-  told e = sym l.literal-length.ensures ∙ ap length_answer e
+  told : {a : LengthAnswer} → l.literal_length.result ≡ a → literal_length header ≡ length_answer a
+  told e = sym l.literal_length.ensures ∙ ap length_answer e
 
-  answered : {a : LengthAnswer} → l.literal-length.result ≡ a
+  answered : {a : LengthAnswer} → l.literal_length.result ≡ a
       → write_literal header planes text ≡ by_length (literal_text (vector header planes)) text (length_answer a)
   answered e = by-length header planes text accepted ∙ ap (by_length (literal_text (vector header planes)) text) (told e)
 
-returns : tie.Need-returns
+returns : tie.Need-returns-then-text-n
 returns c =
-    let l = c.before.before in
-    sym (answered l.before.before l.n.given.1 ∙ rw (ne_eqb _ _ c.if1.true))
+    sym (answered c.before.before.before.before c.in-Length.is ∙ rw (ne_eqb _ _ c.if-text-n.true))
 
-put-literal-requires : tie.Need-put-literal-requires
+put-literal-requires : tie.Need-put_literal-requires
 unfolding literal_text
 put-literal-requires c κs =
-    let n = c.before.before.before in
-    let l = n.before.before in
-    let k = (vector-accepted (header l) (planes l) (accepted l)).planes in
-    ((k.value-plane.count, k.unknown-plane.count), c.before.if1.false ∙ sym (length-given (header l) (planes l) _ (told l n.n.given.1)))
+    let k = (vector-accepted (header c.before.before.before.before.before) (planes c.before.before.before.before.before) (accepted c.before.before.before.before.before)).planes in
+    ((k.value-plane.count, k.unknown-plane.count), c.if-text-n.false ∙ sym (length-given (header c.before.before.before.before.before) (planes c.before.before.before.before.before) _ (told c.before.before.before.before.before c.in-Length.is)))
 
-returns-2 : tie.Need-returns-2
+returns-2 : tie.Need-returns-in-Refused
 unfolding write_literal
 returns-2 c =
-    let t = c.before in
-    simp (verdict-told t.before.before.check-vector.ensures t.r.given.1)
+    simp (verdict-told c.check_vector.ensures c.in-Refused.is)
 
-returns-3 : tie.Need-returns-3
+returns-3 : tie.Need-returns-in-Refused-literal_length
 returns-3 c =
-    let l = c.before in
-    sym (answered l.before.before l.r2.given.1)
+    sym (answered c.before.before.before c.in-Refused-literal_length.is)
 
-returns-4 : tie.Need-returns-4
+returns-4 : tie.Need-returns-else-text-n
 unfolding literal_text
 returns-4 c =
-    let v = c.before.before in
-    let e = v.before.before in
-    let n = e.before.before in
-    let l = n.before.before in
-    ap (outcome (given tt)) {y = literal_text (vector (header l) (planes l))} v.put-literal.ensures
-    ∙ sym (answered l n.n.given.1 ∙ rw (eq-eqb _ _ e.if1.false))
+    ap (outcome (given tt)) {y = literal_text (vector (header c.before.before.before.before.before.before.before.before) (planes c.before.before.before.before.before.before.before.before))} c.put_literal.ensures
+    ∙ sym (answered c.before.before.before.before.before.before.before.before c.in-Length.is ∙ rw (eq-eqb _ _ c.if-text-n.false))
 
-pub write-literal-spec : {M : Type 1} → statement M
-write-literal-spec =
+pub write_literal_spec : {M : Type 1} → statement M
+write_literal_spec =
     tie.close
     (tie.spec
     (λ c κs. search rules)

@@ -24,7 +24,7 @@ use Rattle.load.proofs.load_list.Statement.{statement}
 use Rattle.load.proofs.load_list.Tie as tie
 
 -- once the text is read
-module _ (k : tie.After-read-list) where
+module _ (k : tie.After-read_list-a) where
   abbrev start : tie.Start
   start = k.before.before.before.before
 
@@ -35,49 +35,42 @@ module _ (k : tie.After-read-list) where
   arenas = lent start.args.av.now start.args.au.now
 
   abbrev list : StepList
-  list = list_in text k.read-list.result.list
+  list = list_in text k.read_list-a.result.list
 
-  told : (v : Verdict) → k.read-list.result.verdict ≡ v → after (verdict v) (given list) ≡ whole text
-  told v e = sym (ap (λ x. after (verdict x) (given list)) e) ∙ k.read-list.ensures
+  told : (v : Verdict) → k.read_list-a.result.verdict ≡ v → after (verdict v) (given list) ≡ whole text
+  told v e = sym (ap (λ x. after (verdict x) (given list)) e) ∙ k.read_list-a.ensures
 
 -- no cells
 none : (a : Planes) (f : Fields) → f ≡ no_fields → (state (store_of 0 f) a ≡ state empty_store a) × Fitted f 0 0 a
 none a f e = (ap (λ (s : Store). state s a) (ap (store_of 0) e ∙ sym store-empty), subst (λ (x : Fields). Fitted x 0 0 a) (sym e) (fitted_none a))
 
-load-inputs-requires : tie.Need-load-inputs-requires
+load-inputs-requires : tie.Need-load_inputs-inputs-requires
 load-inputs-requires c κs =
-    let a = c.before.before in
-    let k = a.before.before.before in
-    let t = text k in
-    let r = k.read-list.result in
-    let e = k.read-list.ensures in
-    let ok = a.enum_told.given.1 in
+    let t = text c.before.before.before.before.before in
+    let r = c.read_list-a.result in
+    let e = c.read_list-a.ensures in
+    let ok = c.in-Accepted.is in
     let n = listed-counts t r e ok in
     record { few-inputs = n.0; inputs = λ i h. let p = listed-places t r e ok i h in (p.1, p.0) }
 
-returns : tie.Need-returns
+returns : tie.Need-returns-in-Refused
 returns c =
-    let v = c.before.before in
-    let k = v.before.before.before in
-    let r = v.verdict.given in
-    let n = none (arenas k) c.no_fields.result c.no_fields.ensures in
-    let e : refused (refusal_number r.0.0) ≡ whole (text k) = told k (Refused r.0.0) r.1 in (
-      ap (outcome (refused (refusal_number r.0.0))) n.0 ∙ ap (load_list (state empty_store (arenas k))) e,
+    let r = c.known_told-1.given in
+    let n = none (arenas c.before.before.before.before.before) c.no_fields-none.result c.no_fields-none.ensures in
+    let e : refused (refusal_number r.0.0) ≡ whole (text c.before.before.before.before.before) = told c.before.before.before.before.before (Refused r.0.0) r.1 in (
+      ap (outcome (refused (refusal_number r.0.0))) n.0 ∙ ap (load_list (state empty_store (arenas c.before.before.before.before.before))) e,
       (refl, n.1),
     )
 
-returns-2 : tie.Need-returns-2
+returns-2 : tie.Need-returns-in-Accepted
 returns-2 c =
-    let i = c.before.before.before.before in
-    let a = i.before.before.before in
-    let k = a.before.before.before in
-    let e : given (list k) ≡ whole (text k) = told k Accepted a.enum_told.given.1 in (
-      i.load-inputs.ensures.0 ∙ ap (load_list (state empty_store (arenas k))) e,
-      (ap (after (verdict i.load-inputs.result.verdict)) (sym e), i.load-inputs.ensures.1),
+    let e : given (list c.before.before.before.before.before.before.before.before.before.before) ≡ whole (text c.before.before.before.before.before.before.before.before.before.before) = told c.before.before.before.before.before.before.before.before.before.before Accepted c.in-Accepted.is in (
+      c.load_inputs-inputs.ensures.0 ∙ ap (load_list (state empty_store (arenas c.before.before.before.before.before.before.before.before.before.before))) e,
+      (ap (after (verdict c.load_inputs-inputs.result.verdict)) (sym e), c.load_inputs-inputs.ensures.1),
     )
 
-pub load-list-spec : {M : Type 1} → statement M
-load-list-spec =
+pub load_list_spec : {M : Type 1} → statement M
+load_list_spec =
     tie.close
     (tie.spec
     (λ c κs. search rules)

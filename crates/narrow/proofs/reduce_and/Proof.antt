@@ -10,31 +10,26 @@ use Rattle.narrow.proofs.reduce_and.Statement.{statement}
 use Rattle.narrow.proofs.reduce_and.Tie as tie
 
 -- the places below the width
-mask : (c : tie.After-ones) → c.ones.result ≡ 2 ^ min 64 c.before.before.args.width - 1
-mask c = c.ones.ensures ∙ ap (λ (n : ℕ). 2 ^ n - 1) c.before.least.ensures
+mask : (c : tie.After-ones-m) → c.ones-m.result ≡ 2 ^ min 64 c.args.width - 1
+mask c = c.ones-m.ensures ∙ ap (λ (n : ℕ). 2 ^ n - 1) c.least-n.ensures
 
-least-requires : tie.Need-least-requires
+least-requires : tie.Need-least-n-requires
 least-requires c κs = search rules
 
-ones-requires : tie.Need-ones-requires
+ones-requires : tie.Need-ones-m-requires
 ones-requires c κs = search rules
 
-returns : tie.Need-returns
+returns : tie.Need-returns-then-v-u-ne0
 returns c =
-    let o = c.before in
-    and_word o.before.before.args.a (search rules) (search rules) _ _ (omega arith) (mask o) true _ (ap not (ne_eqb _ _ c.if1.true)) refl
+    and_word c.args.a (search rules) (search rules) _ _ (omega arith) (mask c.before) true _ (ap not (ne_eqb _ _ c.if-v-u-ne0.true)) refl
 
-returns-2 : tie.Need-returns-2
+returns-2 : tie.Need-returns-then-u-m-ne0
 returns-2 c =
-    let e = c.before in
-    let o = e.before in
-    and_word o.before.before.args.a (search rules) (search rules) _ _ (omega arith) (mask o) false true (ap not (eq-eqb _ _ e.if1.false)) (ap not (ne_eqb _ _ c.if2.true))
+    and_word c.args.a (search rules) (search rules) _ _ (omega arith) (mask c.before.before) false true (ap not (eq-eqb _ _ c.if-v-u-ne0.false)) (ap not (ne_eqb _ _ c.if-u-m-ne0.true))
 
-returns-3 : tie.Need-returns-3
+returns-3 : tie.Need-returns
 returns-3 c =
-    let e = c.before in
-    let o = e.before in
-    and_word o.before.before.args.a (search rules) (search rules) _ _ (omega arith) (mask o) false false (ap not (eq-eqb _ _ e.if1.false)) (ap not (eq-eqb _ _ c.if2.false))
+    and_word c.args.a (search rules) (search rules) _ _ (omega arith) (mask c.before.before) false false (ap not (eq-eqb _ _ c.if-v-u-ne0.false)) (ap not (eq-eqb _ _ c.if-u-m-ne0.false))
 
-pub reduce-and-spec : {M : Type 1} → statement M
-reduce-and-spec = tie.close (tie.spec least-requires ones-requires returns returns-2 returns-3)
+pub reduce_and_spec : {M : Type 1} → statement M
+reduce_and_spec = tie.close (tie.spec least-requires ones-requires returns returns-2 returns-3)

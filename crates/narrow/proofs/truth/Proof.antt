@@ -12,24 +12,24 @@ use Rattle.narrow.proofs.truth.Statement.{statement}
 use Rattle.narrow.proofs.truth.Tie as tie
 
 -- the two tests
-by_tests : (c : tie.After-known-ones) (s u : Bool) → let a = c.before.args.a in not_zero c.known-ones.result ≡ s → not_zero a.unknown ≡ u
+by_tests : (c : tie.After-known_ones) (s u : Bool) → let a = c.args.a in not_zero c.known_ones.result ≡ s → not_zero a.unknown ≡ u
     → (told s u ≡ truth_by_words (single a)) × (told s u ≡ truth_of (vector_of 64 (single a)))
 by_tests c s u e f =
-    let a = c.before.args.a in
-    let w = truth-word a s u (sym (ap not_zero c.known-ones.ensures) ∙ e) f in
+    let a = c.args.a in
+    let w = truth-word a s u (sym (ap not_zero c.known_ones.ensures) ∙ e) f in
     (w, w ∙ truth-bits a (search rules) (search rules))
 
-known-ones-requires : tie.Need-known-ones-requires
+known-ones-requires : tie.Need-known_ones-requires
 known-ones-requires c κs = search rules
 
-returns : tie.Need-returns
-returns c = by_tests c.before true _ (ap not (ne_eqb _ _ c.if1.true)) refl
+returns : tie.Need-returns-then-known_ones-ne0
+returns c = by_tests c.before true _ (ap not (ne_eqb _ _ c.if-known_ones-ne0.true)) refl
 
-returns-2 : tie.Need-returns-2
-returns-2 c = let e = c.before in by_tests e.before false true (ap not (eq-eqb _ _ e.if1.false)) (ap not (ne_eqb _ _ c.if2.true))
+returns-2 : tie.Need-returns-then-u-ne0
+returns-2 c = by_tests c.before.before false true (ap not (eq-eqb _ _ c.if-known_ones-ne0.false)) (ap not (ne_eqb _ _ c.if-u-ne0.true))
 
-returns-3 : tie.Need-returns-3
-returns-3 c = let e = c.before in by_tests e.before false false (ap not (eq-eqb _ _ e.if1.false)) (ap not (eq-eqb _ _ c.if2.false))
+returns-3 : tie.Need-returns
+returns-3 c = by_tests c.before.before false false (ap not (eq-eqb _ _ c.if-known_ones-ne0.false)) (ap not (eq-eqb _ _ c.if-u-ne0.false))
 
-pub truth-spec : {M : Type 1} → statement M
-truth-spec = tie.close (tie.spec known-ones-requires returns returns-2 returns-3)
+pub truth_spec : {M : Type 1} → statement M
+truth_spec = tie.close (tie.spec known-ones-requires returns returns-2 returns-3)

@@ -23,27 +23,26 @@ no-arms family.Select b c o = absurd (miss (0 ∷ 1 ∷ 2 ∷ 4 ∷ []) 3 tt o)
 no-arms family.Insert b c o = refl
 
 -- the family told is that of the op
-told : (c : tie.After-family-of) → let a = c.before.args in family_refused c.family-of.result a.b a.c ≡ arms_refused a.op a.b a.c
-told c = let a = c.before.args in ap (λ (k : Family). family_refused k a.b a.c) c.family-of.ensures
+told : (c : tie.After-family_of) → let a = c.args in family_refused c.family_of.result a.b a.c ≡ arms_refused a.op a.b a.c
+told c = let a = c.args in ap (λ (k : Family). family_refused k a.b a.c) c.family_of.ensures
 
-family-of-requires : tie.Need-family-of-requires
+family-of-requires : tie.Need-family_of-requires
 family-of-requires c κs = search rules
 
-enum_told : tie.Need-enum-told
+enum_told : tie.Need-enum_told-1
 enum_told c = search rules
 
-returns : tie.Need-returns
+returns : tie.Need-returns-in-Join
 returns c =
-    let a = c.before.before.args in
-    no-arms c.before.family-of.result a.b a.c c.match.keys1 ∙ told c.before
+    let a = c.args in
+    no-arms c.family_of.result a.b a.c c.in-Join.in-Join-own.keys1 ∙ told c.before
 
-returns-2 : tie.Need-returns-2
+returns-2 : tie.Need-returns-in-Select
 returns-2 c =
-    let t = c.before.before.before.before in
-    let a = t.before.before.before.args in
+    let a = c.args in
     or_assoc (not (eqb a.b.width a.c.width)) a.b.is_fill a.c.is_fill
-    ∙ ap (λ (k : Family). family_refused k a.b a.c) (sym t.enum_told.given.1)
-    ∙ told t.before.before
+    ∙ ap (λ (k : Family). family_refused k a.b a.c) (sym c.in-Select.is)
+    ∙ told c.before.before.before.before.before.before
 
-pub arms-refused-spec : {M : Type 1} → statement M
-arms-refused-spec = tie.close (tie.spec family-of-requires enum_told returns returns-2)
+pub arms_refused_spec : {M : Type 1} → statement M
+arms_refused_spec = tie.close (tie.spec family-of-requires enum_told returns returns-2)

@@ -30,47 +30,47 @@ two question.LogicAnd k = refl
 two question.LogicOr k = refl
 
 -- what follows from the question that was told
-told : (c : tie.After-q) → question_operands c.q.given.0.0 ≡ operands c.before.before.before.args.op
-told c = ap family_operands (sym c.q.given.1 ∙ c.before.before.family-of.ensures)
+told : (c : tie.In-Answer-2) → question_operands c.in-Answer.q ≡ operands c.args.op
+told c = ap family_operands (sym c.in-Answer.is ∙ c.family_of.ensures)
 
-family-of-requires : tie.Need-family-of-requires
+family-of-requires : tie.Need-family_of-requires
 family-of-requires c κs = search rules
 
-enum_told : tie.Need-enum-told
+enum_told : tie.Need-enum_told-1
 enum_told c = search rules
 
-enum-told-2 : tie.Need-enum-told-2
+enum-told-2 : tie.Need-enum_told-in-Not
 enum-told-2 c = search rules
 
-enum-known-q : tie.Need-enum-known-q
+enum-known-q : tie.Need-enum_known-q
 enum-known-q c = search rules
 
-enum-told-3 : tie.Need-enum-told-3
+enum-told-3 : tie.Need-enum_told-in-Select
 enum-told-3 c = search rules
 
-enum-told-4 : tie.Need-enum-told-4
+enum-told-4 : tie.Need-enum_told-in-Insert
 enum-told-4 c = search rules
 
-returns : tie.Need-returns
+returns : tie.Need-returns-in-Join
 returns c = search rules
 
-returns-2 : tie.Need-returns-2
+returns-2 : tie.Need-returns-in-Not
 returns-2 c = search rules
 
-returns-3 : tie.Need-returns-3
-returns-3 c = one c.before.before.q.given.0.0 c.match2.keys1 ∙ told c.before.before
+returns-3 : tie.Need-returns-in-ReduceAnd
+returns-3 c = one c.in-Answer.q c.in-ReduceAnd.in-ReduceAnd-own.keys1 ∙ told c.before.before
 
-returns-4 : tie.Need-returns-4
-returns-4 c = two c.before.before.q.given.0.0 c.match2.keys2 ∙ told c.before.before
+returns-4 : tie.Need-returns-in-Compare
+returns-4 c = two c.in-Answer.q c.in-Compare.in-Compare-own.keys2 ∙ told c.before.before
 
-returns-5 : tie.Need-returns-5
+returns-5 : tie.Need-returns-in-Select
 returns-5 c = search rules
 
-returns-6 : tie.Need-returns-6
+returns-6 : tie.Need-returns-in-Insert
 returns-6 c = search rules
 
-pub operand-count-spec : {M : Type 1} → statement M
-operand-count-spec =
+pub operand_count_spec : {M : Type 1} → statement M
+operand_count_spec =
     tie.close
     (tie.spec
     family-of-requires

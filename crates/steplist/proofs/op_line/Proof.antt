@@ -21,33 +21,31 @@ abbrev names : List (List ℕ)
 names = map op_text all_ops
 
 -- what the call said
-module _ (c : tie.After-one-of) where
+module _ (c : tie.After-one_of-line) where
   abbrev text : List ℕ
-  text = c.before.before.before.args.s.now
+  text = c.args.s.now
 
   abbrev from : ℕ
-  from = c.before.before.before.args.at
+  from = c.args.at
 
   short : length text < nowhere
-  short = omega (arith, c.before.before.before.well-formed)
+  short = omega (arith, c.well_formed)
 
-  named : c.one_of_lem.result ≡ line_in text (name_line op_key names (drop from text))
+  named : c.one_of-line.result ≡ line_in text (name_line op_key names (drop from text))
   unfolding name_line
-  named = c.one_of_lem.ensures ∙ ap (line_in text) (keyed-names op_key names 0 (drop from text))
+  named = c.one_of-line.ensures ∙ ap (line_in text) (keyed-names op_key names 0 (drop from text))
 
-op-at-requires : tie.Need-op-at-requires
+op-at-requires : tie.Need-op_at-requires
 op-at-requires c κs =
-    let w = c.before in
-    line-within (text w) (short w) (name-exact op_key names refl) (from w) w.one_of_lem.result (named w) (omega arith)
+    line-within (text c.before) (short c.before) (name-exact op_key names refl) (from c.before) c.one_of-line.result (named c.before) (omega arith)
 
 returns : tie.Need-returns
 unfolding op_line choice_line
 returns c =
-    let w = c.before.before in
-    let r = w.one_of_lem.result in
-    ap (λ (o : Op). record { op = o; next = r.next }) c.op-at.ensures
-    ∙ ap (λ (l : Line). record { op = get_or all_ops l.number And; next = l.next }) (named w)
-    ∙ sym (op-line (text w) (name_line op_key names (drop (from w) (text w))))
+    let r = c.one_of-line.result in
+    ap (λ (o : Op). record { op = o; next = r.next }) c.op_at.ensures
+    ∙ ap (λ (l : Line). record { op = get_or all_ops l.number And; next = l.next }) (named c.before.before)
+    ∙ sym (op-line (text c.before.before) (name_line op_key names (drop (from c.before.before) (text c.before.before))))
 
-pub op-line-spec : {M : Type 1} → statement M
-op-line-spec = tie.close (tie.spec (λ c. search rules) (λ c κs. search rules) (λ c. search rules) op-at-requires returns)
+pub op_line_spec : {M : Type 1} → statement M
+op_line_spec = tie.close (tie.spec (λ c. search rules) (λ c κs. search rules) (λ c. search rules) op-at-requires returns)

@@ -16,39 +16,35 @@ use Rattle.steplist.proofs.read_input.Statement.{statement}
 use Rattle.steplist.proofs.read_input.Tie as tie
 
 -- the line kind= as the reader's
-module _ (c : tie.After-one-of) where
+module _ (c : tie.After-one_of-kind) where
   abbrev start : tie.Start
-  start = c.before.before.before.before.before
+  start = c.before.before.before.before.before.before.before
 
   abbrev text : List ℕ
   text = start.args.s.now
 
   abbrev behind-width : ℕ
-  behind-width = c.before.before.number-line.result.next
+  behind-width = c.number_line-width.result.next
 
   short : length text < nowhere
-  short = omega (arith, start.good)
+  short = omega (arith, start.well_formed)
 
-  kind-read : c.one_of_lem.result ≡ line_in text (name_line kind_key kinds (drop behind-width text))
+  kind-read : c.one_of-kind.result ≡ line_in text (name_line kind_key kinds (drop behind-width text))
   unfolding name_line
-  kind-read = c.one_of_lem.ensures ∙ ap (line_in text) (keyed-names kind_key kinds 0 (drop behind-width text))
+  kind-read = c.one_of-kind.ensures ∙ ap (line_in text) (keyed-names kind_key kinds 0 (drop behind-width text))
 
-add-t18 : tie.Need-overflow-add-t18
+add-t18 : tie.Need-overflow_add-result
 add-t18 c =
-    let k = c.before.before.before.before.before in
-    let near : k.one_of_lem.result.next ≤ nowhere = line-near (text k) (short k) (name-exact kind_key kinds refl) (behind-width k) k.one_of_lem.result (kind-read k) in
+    let near : c.one_of-kind.result.next ≤ nowhere = line-near (text c.before.before.before.before.before.before) (short c.before.before.before.before.before.before) (name-exact kind_key kinds refl) (behind-width c.before.before.before.before.before.before) c.one_of-kind.result (kind-read c.before.before.before.before.before.before) in
     omega (arith, near)
 
 returns : tie.Need-returns
 returns c =
-    let b = c.before.before.before in
-    let k = b.before.before in
-    let w = k.before.before in
-    input-got (text k) (short k) (start k).args.at w.number-line.result k.one_of_lem.result b.bits-line.result
-    w.number-line.ensures (kind-read k) b.bits-line.ensures
+    input-got (text c.before.before.before.before.before.before) (short c.before.before.before.before.before.before) (start c.before.before.before.before.before.before).args.at c.number_line-width.result c.one_of-kind.result c.bits_line-next.result
+    c.number_line-width.ensures (kind-read c.before.before.before.before.before.before) c.bits_line-next.ensures
 
-pub read-input-spec : {M : Type 1} → statement M
-read-input-spec =
+pub read_input_spec : {M : Type 1} → statement M
+read_input_spec =
     tie.close
     (tie.spec
     (λ c. search rules)

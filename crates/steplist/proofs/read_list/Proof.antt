@@ -16,50 +16,42 @@ use Rattle.steplist.proofs.read_list.Statement.{statement}
 use Rattle.steplist.proofs.read_list.Tie as tie
 
 -- the text, and the counts
-module _ (k : tie.After-number-line2) where
+module _ (k : tie.After-number_line-m) where
   abbrev start : tie.Start
-  start = k.before.before.before.before.before
+  start = k.before.before.before.before.before.before.before
 
   abbrev text : List ℕ
   text = start.args.s.now
 
   short : length text < nowhere
-  short = omega (arith, start.good)
+  short = omega (arith, start.well_formed)
 
-  inputs-fit : k.before.before.number-line.result.number ≤ 64
-  inputs-fit = line-within text short (line-exact inputs_key 64) 0 k.before.before.number-line.result k.before.before.number-line.ensures (omega arith)
+  inputs-fit : k.number_line-n.result.number ≤ 64
+  inputs-fit = line-within text short (line-exact inputs_key 64) 0 k.number_line-n.result k.number_line-n.ensures (omega arith)
 
-  steps-fit : k.number-line2.result.number ≤ 256
+  steps-fit : k.number_line-m.result.number ≤ 256
   steps-fit =
-      line-within text short (line-exact steps_key 256) k.before.before.number-line.result.next k.number-line2.result k.number-line2.ensures (omega arith)
+      line-within text short (line-exact steps_key 256) k.number_line-n.result.next k.number_line-m.result k.number_line-m.ensures (omega arith)
 
-read-inputs-requires : tie.Need-read-inputs-requires
+read-inputs-requires : tie.Need-read_inputs-a-requires
 read-inputs-requires c κs = inputs-fit c.before.before
 
-read-steps-requires : tie.Need-read-steps-requires
+read-steps-requires : tie.Need-read_steps-b-requires
 read-steps-requires c κs = steps-fit c.before.before.before.before
 
-returns : tie.Need-returns
+returns : tie.Need-returns-then-b-s
 returns c =
-    let q = c.before.before.before in
-    let p = q.before.before in
-    let k = p.before.before.before in
-    let n = k.before.before in
-    let e = and-true _ _ c.if1.true in
-    sym (accepted (text k) (short k) n.number-line.result k.number-line2.result _ _ _ _ n.number-line.ensures k.number-line2.ensures p.read-inputs.ensures q.read-steps.ensures
+    let e = and-true _ _ c.if-b-s.true in
+    sym (accepted (text c.before.before.before.before.before.before.before.before) (short c.before.before.before.before.before.before.before.before) c.number_line-n.result c.number_line-m.result _ _ _ _ c.number_line-n.ensures c.number_line-m.ensures c.read_inputs-a.ensures c.read_steps-b.ensures
     (eqb-true _ _ e.0) (leb-true _ _ e.1))
 
-returns-2 : tie.Need-returns-2
+returns-2 : tie.Need-returns-else-b-s
 returns-2 c =
-    let q = c.before.before.before in
-    let p = q.before.before in
-    let k = p.before.before.before in
-    let n = k.before.before in
-    sym (refused-6 (text k) (short k) n.number-line.result k.number-line2.result _ _ _ _ n.number-line.ensures k.number-line2.ensures p.read-inputs.ensures q.read-steps.ensures
-    c.if1.false)
+    sym (refused-6 (text c.before.before.before.before.before.before.before.before) (short c.before.before.before.before.before.before.before.before) c.number_line-n.result c.number_line-m.result _ _ _ _ c.number_line-n.ensures c.number_line-m.ensures c.read_inputs-a.ensures c.read_steps-b.ensures
+    c.if-b-s.false)
 
-pub read-list-spec : {M : Type 1} → statement M
-read-list-spec =
+pub read_list_spec : {M : Type 1} → statement M
+read_list_spec =
     tie.close
     (tie.spec
     (λ c. search rules)

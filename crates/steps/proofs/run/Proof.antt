@@ -29,7 +29,7 @@ use Rattle.steps.proofs.run.Statement.{statement}
 use Rattle.steps.proofs.run.Tie as tie
 
 -- once the text is loaded
-module _ (k : tie.After-load-list) where
+module _ (k : tie.After-load_list-l) where
   abbrev start : tie.Start
   start = k.before.before.before.before.before.before.before.before
 
@@ -46,76 +46,69 @@ module _ (k : tie.After-load-list) where
   out = buffer start.args.out.now 0
 
   abbrev loaded : Loaded
-  loaded = k.load-list.result
+  loaded = k.load_list-l.result
 
   abbrev arenas : Planes
-  arenas = lent k.load-list.last.1.0 k.load-list.last.1.1.0
+  arenas = lent k.load_list-l.new.1.0 k.load_list-l.new.1.1.0
 
   abbrev left : State
   left = state (store_of loaded.inputs.count loaded.inputs.fields) arenas
 
   told : (v : Verdict) → loaded.inputs.verdict ≡ v → outcome (verdict v) left ≡ load_list empty (whole text)
-  told v e = sym (ap (λ (x : Verdict). outcome (verdict x) left) e) ∙ k.load-list.ensures.0
+  told v e = sym (ap (λ (x : Verdict). outcome (verdict x) left) e) ∙ k.load_list-l.ensures.0
 
 -- every input is accepted
-module _ (a : tie.After-enum-told) where
-  abbrev l : tie.After-load-list
+module _ (a : tie.In-Accepted) where
+  abbrev l : tie.After-load_list-l
   l = a.before.before.before.before.before.before.before
 
   listed : whole (text l) ≡ given (list_in (text l) (loaded l).list)
   listed =
-      let v = ap (λ (x : Verdict). after (verdict x) (whole (text l))) (sym a.enum_told.given.1) in
-      v ∙ l.load-list.ensures.1.0 ∙ ap (λ (x : Verdict). after (verdict x) (given (list_in (text l) (loaded l).list))) a.enum_told.given.1
+      let v = ap (λ (x : Verdict). after (verdict x) (whole (text l))) (sym a.in-Accepted.is) in
+      v ∙ l.load_list-l.ensures.1.0 ∙ ap (λ (x : Verdict). after (verdict x) (given (list_in (text l) (loaded l).list))) a.in-Accepted.is
 
   few : (loaded l).list.step_count ≤ 256
   few = (listed-counts (text l) (record { verdict = Accepted; list = (loaded l).list }) (sym listed) refl).1
 
-put-refused-requires : tie.Need-put-refused-requires
+put-refused-requires : tie.Need-put_refused-requires
 put-refused-requires c κs =
-    let n = c.before.before.before.before.before.before.before in
-    let v = n.before.before.before in
-    (omega (arith, n.number.ensures, number_small v.verdict.given.0.0), search rules, search rules)
+    (omega (arith, c.number-n.ensures, number_small c.in-Refused.r), search rules, search rules)
 
-run-steps-requires : tie.Need-run-steps-requires
+run-steps-requires : tie.Need-run_steps-p-requires
 run-steps-requires c κs =
-    let a = c.before.before.before.before.before in
-    ((few a, search rules), (l a).load-list.ensures.1.1)
+    ((few c.before.before.before.before.before.before, search rules), (l c.before.before.before.before.before.before).load-list.ensures.1.1)
 
-returns : tie.Need-returns
+returns : tie.Need-returns-in-Refused
 returns c =
-    let s = c.before.before in
-    let n = s.before.before.before.before.before.before in
-    let v = n.before.before.before in
-    let k = v.before.before.before.before.before.before.before in
-    let r = v.verdict.given in
-    ap₂ (λ (z : Store) (o : Buffer). final (memory (state z (arenas k)) (scratch k)) o (RefusedAt (refusal_number r.0.0) 0)) s.store_of.ensures
-    (c.Put-refused.ensures ∙ ap (λ (i : ℕ). put (out k) (refused_text i 0)) n.number.ensures)
-    ∙ ap (λ (x : Ran). final_of x (out k)) (refused-load (empty k) (left k) (scratch k) (whole (text k)) (refusal_number r.0.0) (told k (Refused r.0.0) r.1))
+    let r = c.known_told-1.given in
+    ap₂ (λ (z : Store) (o : Buffer). final (memory (state z (arenas c.before.before.before.before.before.before.before.before.before.before.before.before.before.before.before.before.before)) (scratch c.before.before.before.before.before.before.before.before.before.before.before.before.before.before.before.before.before)) o (RefusedAt (refusal_number r.0.0) 0)) c.store_of.ensures
+    (c.put_refused.ensures ∙ ap (λ (i : ℕ). put (out c.before.before.before.before.before.before.before.before.before.before.before.before.before.before.before.before.before) (refused_text i 0)) c.number-n.ensures)
+    ∙ ap (λ (x : Ran). final_of x (out c.before.before.before.before.before.before.before.before.before.before.before.before.before.before.before.before.before)) (refused-load (empty c.before.before.before.before.before.before.before.before.before.before.before.before.before.before.before.before.before) (left c.before.before.before.before.before.before.before.before.before.before.before.before.before.before.before.before.before) (scratch c.before.before.before.before.before.before.before.before.before.before.before.before.before.before.before.before.before) (whole (text c.before.before.before.before.before.before.before.before.before.before.before.before.before.before.before.before.before)) (refusal_number r.0.0) (told c.before.before.before.before.before.before.before.before.before.before.before.before.before.before.before.before.before (Refused r.0.0) r.1))
 
 -- the steps are run
-abbrev ran : tie.After-store-of2 → tie.After-run-steps
+abbrev ran : tie.After-store_of-in-Accepted → tie.After-run_steps-p
 ran c = c.before.before.before.before.before.before.before.before.before.before.before.before.before.before.before
 
-same-length-3 : tie.Need-same-length-3
+same-length-3 : tie.Need-shape_of-av-in-Accepted
 same-length-3 c =
     let r = ran c in
     let a = r.before.before.before.before.before.before in
     r.run-steps.kept.1.1.0 ∙ (l a).load-list.kept.1.0
 
-same-length-4 : tie.Need-same-length-4
+same-length-4 : tie.Need-shape_of-au-in-Accepted
 same-length-4 c =
     let r = ran c in
     let a = r.before.before.before.before.before.before in
     r.run-steps.kept.1.1.1.0 ∙ (l a).load-list.kept.1.1.0
 
-returns-2 : tie.Need-returns-2
+returns-2 : tie.Need-returns-in-Accepted
 returns-2 c =
     let r = ran c in
     let a = r.before.before.before.before.before.before in
     let k = l a in
     let p = r.run-steps.last.1.1 in
     let x = r.run-steps.result in
-    ap (λ (z : Store). final (memory (state z (lent p.0 p.1.0)) (lent p.1.1.0 p.1.1.1.0)) (buffer p.1.1.1.1.0 x.length) (ending_of x.ending)) c.store-of2.ensures
+    ap (λ (z : Store). final (memory (state z (lent p.0 p.1.0)) (lent p.1.1.0 p.1.1.1.0)) (buffer p.1.1.1.1.0 x.length) (ending_of x.ending)) c.store_of-in-Accepted.ensures
     ∙ r.run-steps.ensures
     ∙ ap (λ (y : Ran). final_of y (out k))
     (accepted-load (empty k) (left k) (scratch k) (whole (text k)) (list_in (text k) (loaded k).list) (told k Accepted a.enum_told.given.1) (listed a))

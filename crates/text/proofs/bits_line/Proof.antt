@@ -51,77 +51,70 @@ unfolding bits many bit key
 no_bits zero = refl
 no_bits (suc n) = refl
 
-abbrev invariant-loop : tie.invariant-loop
+abbrev invariant-loop : tie.invariant-loop-left
 invariant-loop s at key n i₀ left₀ t8 i left = (bs : List LogicBit) × (many bit n (drop i₀ s) ≡ behind bs (many bit left (drop i s)))
 
-abbrev decreases-loop : tie.decreases-loop
+abbrev decreases-loop : tie.decreases-loop-left
 decreases-loop s at key n i₀ left₀ t8 i left = left
 
-loop-holds : tie.Need-loop-init invariant-loop decreases-loop
+loop-holds : tie.Need-loop-left-init invariant-loop decreases-loop
 loop-holds c = ([], behind-none _)
 
 -- there is a byte, and a bit to read
-module _ (c : tie.In-loop invariant-loop decreases-loop) where
+module _ (c : tie.In-loop-left invariant-loop decreases-loop) where
   abbrev s : List ℕ
-  s = c.before.before.before.before.before.args.s.now
+  s = c.args.s.now
 
-  fits : (0 < c.before.loop.left) × (c.before.loop.i < length s)
-  fits = let q = and-true _ _ c.loop-test.true in (ltb-true _ _ q.0, ltb-true _ _ q.1)
+  fits : (0 < c.loop-left.left) × (c.loop-left.i < length s)
+  fits = let q = and-true _ _ c.loop-left-test.true in (ltb-true _ _ q.0, ltb-true _ _ q.1)
 
 -- the line is read behind the key, and what is left of it from the place reached on, with the number of bits left as m
-line_read : (l : tie.At-loop invariant-loop decreases-loop) (m : ℕ) → l.loop.left ≡ m → let a = l.before.before.before.before.args in
-    bits_line a.key.now a.n (drop a.at a.s.now) ≡ ended (behind l.loop.invariant.0 (many bit m (drop l.loop.i a.s.now)))
+line_read : (l : tie.At-loop-left invariant-loop decreases-loop) (m : ℕ) → l.loop-left.left ≡ m → let a = l.args in
+    bits_line a.key.now a.n (drop a.at a.s.now) ≡ ended (behind l.loop-left.invariant.0 (many bit m (drop l.loop-left.i a.s.now)))
 unfolding bits_line bits
 line_read l m e =
-    let w = l.before in
-    let t = w.before.before.before in
-    let short : length t.args.s.now < nowhere = omega (arith, t.well-formed) in
-    behind-key t.args.s.now short t.args.key.now (bits t.args.n) (no_bits t.args.n) t.args.at w.skip.result w.skip.ensures
-    ∙ ap (λ (g : Got (List LogicBit)). ended g) (l.loop.invariant.1 ∙ ap (λ (x : ℕ). behind l.loop.invariant.0 (many bit x (drop l.loop.i t.args.s.now))) e)
+    let short : length l.args.s.now < nowhere = omega (arith, l.well_formed) in
+    behind-key l.args.s.now short l.args.key.now (bits l.args.n) (no_bits l.args.n) l.args.at l.skip-i.result l.skip-i.ensures
+    ∙ ap (λ (g : Got (List LogicBit)). ended g) (l.loop-left.invariant.1 ∙ ap (λ (x : ℕ). behind l.loop-left.invariant.0 (many bit x (drop l.loop-left.i l.args.s.now))) e)
 
-shared-slice-read-c : tie.Need-shared-slice-read-c invariant-loop decreases-loop
+shared-slice-read-c : tie.Need-bounds-s-i invariant-loop decreases-loop
 shared-slice-read-c c = (fits c.before).1
 
-add-i : tie.Need-overflow-add-i invariant-loop decreases-loop
+add-i : tie.Need-overflow_add-i invariant-loop decreases-loop
 add-i c = omega (arith, (fits c.before.before).1)
 
-sub-left : tie.Need-overflow-sub-left invariant-loop decreases-loop
+sub-left : tie.Need-overflow_sub-left invariant-loop decreases-loop
 sub-left c = (fits c.before.before).0
 
-loop-less : tie.Need-loop-smaller invariant-loop decreases-loop
+loop-less : tie.Need-loop-left-smaller invariant-loop decreases-loop
 loop-less c = omega (arith, (fits c.before.before).0)
 
-loop-again : tie.Need-loop-preserved invariant-loop decreases-loop
+loop-again : tie.Need-loop-left-preserved invariant-loop decreases-loop
 loop-again c =
-    let w = c.before.before in
-    let l = w.before in
-    let m : ℕ = l.loop.left - 1 in
-    let e : l.loop.left ≡ suc m = omega (arith, (fits w).0) in
-    let bs = l.loop.invariant.0 in (
-      bs ++ (of_byte (get_or (s w) l.loop.i 0) ∷ []),
-      l.loop.invariant.1
-          ∙ ap (λ (x : ℕ). behind bs (many bit x (drop l.loop.i (s w)))) e
-          ∙ bits-bit (s w) bs l.loop.i m (fits w).1 (sym (bit_test (get_or (s w) l.loop.i 0)) ∙ c.if1.true),
+    let m : ℕ = c.loop-left.left - 1 in
+    let e : c.loop-left.left ≡ suc m = omega (arith, (fits c.before.before).0) in
+    let bs = c.loop-left.invariant.0 in (
+      bs ++ (of_byte (get_or (s c.before.before) c.loop-left.i 0) ∷ []),
+      c.loop-left.invariant.1
+          ∙ ap (λ (x : ℕ). behind bs (many bit x (drop c.loop-left.i (s c.before.before)))) e
+          ∙ bits-bit (s c.before.before) bs c.loop-left.i m (fits c.before.before).1 (sym (bit_test (get_or (s c.before.before) c.loop-left.i 0)) ∙ c.if-c.true),
     )
 
-returns : tie.Need-returns invariant-loop decreases-loop
+returns : tie.Need-returns-else-c invariant-loop decreases-loop
 returns c =
-    let w = c.before.before in
-    let l = w.before in
-    let m : ℕ = l.loop.left - 1 in
+    let m : ℕ = c.loop-left.left - 1 in
     rw (
-      line_read l (suc m) (omega (arith, (fits w).0)),
-      bits-other (s w) l.loop.invariant.0 l.loop.i m (fits w).1 (sym (bit_test (get_or (s w) l.loop.i 0)) ∙ c.if1.false),
+      line_read c.before.before.before (suc m) (omega (arith, (fits c.before.before).0)),
+      bits-other (s c.before.before) c.loop-left.invariant.0 c.loop-left.i m (fits c.before.before).1 (sym (bit_test (get_or (s c.before.before) c.loop-left.i 0)) ∙ c.if-c.false),
     )
 
-returns-2 : tie.Need-returns-2 invariant-loop decreases-loop
+returns-2 : tie.Need-returns invariant-loop decreases-loop
 returns-2 c =
-    let l = c.before.before.before in
-    let t = l.before.before.before.before.args.s.now in
-    rw (line_read l l.loop.left refl) (c.skip2.ensures ∙ sym (none_left t l.loop.invariant.0 l.loop.i l.loop.left c.before.before.loop-test.false))
+    let t = c.args.s.now in
+    rw (line_read c.before.before.before.before c.loop-left.left refl) (c.skip.ensures ∙ sym (none_left t c.loop-left.invariant.0 c.loop-left.i c.loop-left.left c.loop-left-test.false))
 
-pub bits-line-spec : {M : Type 1} → statement M
-bits-line-spec =
+pub bits_line_spec : {M : Type 1} → statement M
+bits_line_spec =
     tie.close
     (tie.spec
     invariant-loop

@@ -34,52 +34,47 @@ module _ (a : Planes) (at n : ℕ) (c : Cell) (words : n ≡ cell_words c) (with
   inside true true ex ey h = let z : ◌≡◌ {A = ℕ} 0 1 = cc in absurd (omega arith)
   inside false y ex ey h = let z : ◌≡◌ {A = ℕ} 0 1 = cc in absurd (omega arith)
 
-abbrev start : tie.After-word-count → tie.Start
+abbrev start : tie.After-word_count → tie.Start
 start w = w.before.before.before.before.before
 
-abbrev arenas : tie.After-word-count → Planes
+abbrev arenas : tie.After-word_count → Planes
 arenas w = lent (start w).args.value.now (start w).args.unknown.now
 
-spanned : (e : tie.Else1) → let c = (start e.before).args.c in
+spanned : (e : tie.Else-c-at) → let c = (start e.before).args.c in
     (c.start ≡ (start e.before).args.at) × (c.start + cell_words c ≤ length (arenas e.before).value)
 spanned e =
-    let w = e.before in
-    inside (arenas w) (start w).args.at w.word_count.result (start w).args.c w.word_count.ensures (start w).requires.0 _ _ refl refl e.if1.false
+    inside (arenas e.before) (start e.before).args.at e.word_count.result (start e.before).args.c e.word_count.ensures (start e.before).requires.0 _ _ refl refl e.if-c-at.false
 
 -- by the check's verdict, where the span begins and ends as it should
-by-verdict : (k : tie.After-check-vector) (r : Verdict) → k.check-vector.result ≡ r → let w = k.before.before.before.before in
-    accepts (verdict r) ≡ cell_agrees (arenas w) (start w).args.at (start w).args.c
+by-verdict : (k : tie.After-check_vector) (r : Verdict) → k.check_vector.result ≡ r → accepts (verdict r) ≡ cell_agrees (arenas k.before.before.before.before) (start k.before.before.before.before).args.at (start k.before.before.before.before).args.c
 unfolding cell_agrees
 by-verdict k r e =
-    let w = k.before.before.before.before in
-    let c = (start w).args.c in
+    let c = (start k.before.before.before.before).args.c in
     let s = spanned k.before.before.before in
-    let f : check_vector c.header (cell_planes (arenas w) c) ≡ verdict r =
-    ap₂ (λ (v u : List ℕ). check_vector c.header (lent v u)) (sym k.before.before.cell-words.ensures) (sym k.before.cell-words2.ensures)
-    ∙ sym k.check-vector.ensures ∙ ap verdict e in
+    let f : check_vector c.header (cell_planes (arenas k.before.before.before.before) c) ≡ verdict r =
+    ap₂ (λ (v u : List ℕ). check_vector c.header (lent v u)) (sym k.cell_words-v.ensures) (sym k.cell_words-u.ensures)
+    ∙ sym k.check_vector.ensures ∙ ap verdict e in
     simp (eq-eqb _ _ s.0, le-leb _ _ s.1, f)
 
-cell-words-requires : tie.Need-cell-words-requires
+cell-words-requires : tie.Need-cell_words-v-requires
 cell-words-requires c κs = (spanned c).1
 
-cell-words-requires-2 : tie.Need-cell-words-requires-2
+cell-words-requires-2 : tie.Need-cell_words-u-requires
 cell-words-requires-2 c κs =
-    let e = c.before in
-    omega (arith, (spanned e).1, (start e.before).requires.1)
+    omega (arith, (spanned c.before).1, (start c.before.before).requires.1)
 
-returns : tie.Need-returns
+returns : tie.Need-returns-then-c-at
 returns c =
-    let w = c.before in
-    outside (arenas w) (start w).args.at w.word_count.result (start w).args.c w.word_count.ensures (start w).requires.0 _ _ refl refl c.if1.true
+    outside (arenas c.before) (start c.before).args.at c.word_count.result (start c.before).args.c c.word_count.ensures (start c.before).requires.0 _ _ refl refl c.if-c-at.true
 
-returns-2 : tie.Need-returns-2
-returns-2 c = by-verdict c.before.before _ c.enum_told.given.1
+returns-2 : tie.Need-returns-in-Refused
+returns-2 c = by-verdict c.before.before _ c.in-Refused.is
 
-returns-3 : tie.Need-returns-3
-returns-3 c = by-verdict c.before.before _ c.enum-told2.given.1
+returns-3 : tie.Need-returns-in-Accepted
+returns-3 c = by-verdict c.before.before _ c.in-Accepted.is
 
-pub cell-agrees-spec : {M : Type 1} → statement M
-cell-agrees-spec =
+pub cell_agrees_spec : {M : Type 1} → statement M
+cell_agrees_spec =
     tie.close
     (tie.spec
     (λ c. search rules)

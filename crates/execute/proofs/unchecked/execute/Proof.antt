@@ -49,7 +49,7 @@ module _ (p : PlannedStep) (f : Fields) (m : LentMemory) (h : Executable p f m) 
 -- ---- the call
 
 -- the cells are read
-module _ (k : tie.After-cell-at3) where
+module _ (k : tie.After-cell_at-3) where
   abbrev st : tie.Start
   st = k.before.before.before.before.before.before.before
 
@@ -63,33 +63,32 @@ module _ (k : tie.After-cell-at3) where
   memory = record { arenas = lent st.args.av.now st.args.au.now; scratch = lent st.args.sv.now st.args.su.now }
 
   ready : Executable step table memory
-  ready = st.pre
+  ready = st.requires
 
   abbrev cells : Operands
-  cells = record { a = k.before.before.Cell-at.result; b = k.before.cell-at2.result; c = k.cell-at3.result }
+  cells = record { a = k.cell_at.result; b = k.cell_at-2.result; c = k.cell_at-3.result }
 
   read : cells ≡ operands_of step table
-  read = λ i. record { a = k.before.before.Cell-at.ensures i; b = k.before.cell-at2.ensures i; c = k.cell-at3.ensures i }
+  read = λ i. record { a = k.cell_at.ensures i; b = k.cell_at-2.ensures i; c = k.cell_at-3.ensures i }
 
 -- the result stands in the scratch planes
-module _ (w : tie.After-work-cells) where
-  abbrev k : tie.After-cell-at3
-  k = w.before.before.before.before.before.before
+module _ (w : tie.After-work_cells) where
+  abbrev k : tie.After-cell_at-3
+  k = w.before.before.before.before
 
   abbrev scratch : Planes
-  scratch = lent w.work-cells.last.1.1.1.1.1.1.0 w.work-cells.last.1.1.1.1.1.1.1.0
+  scratch = lent w.work_cells.new.1.1.1.1.1.1.0 w.work_cells.new.1.1.1.1.1.1.1.0
 
   worked : scratch ≡ put_planes 0 (planes_of (planned_result (step k) (table k) (memory k).arenas).bits) (memory k).scratch
   worked =
-      w.work-cells.ensures
+      w.work_cells.ensures
       ∙ ap (λ (o : Operands). put_planes 0 (planes_of (op_cells (step k).op o (step k).pos (memory k).arenas).bits) (memory k).scratch) (read k)
 
-work-cells-requires : tie.Need-work-cells-requires
+work-cells-requires : tie.Need-work_cells-requires
 work-cells-requires c κs =
-    let k = c.before.before.before.before.before in
-    let h = ready k in
-    let e = sym (read k) in
-    let a = (memory k).arenas in (
+    let h = ready c.before.before.before in
+    let e = sym (read c.before.before.before) in
+    let a = (memory c.before.before.before).arenas in (
       h.level,
       (
         subst (λ (o : Operands). cell_agrees a o.a.start o.a ≡ true) e h.a-agrees,
@@ -98,9 +97,9 @@ work-cells-requires c κs =
           (
             subst (λ (o : Operands). cell_agrees a o.c.start o.c ≡ true) e h.c-agrees,
             (
-              subst (λ (o : Operands). arms_refused (step k).op o.b.header o.c.header ≡ false) e h.arms,
+              subst (λ (o : Operands). arms_refused (step c.before.before.before).op o.b.header o.c.header ≡ false) e h.arms,
               (
-                subst (λ (o : Operands). (step k).header ≡ op_header (step k).op o.a.header o.b.header o.c.header) e h.header,
+                subst (λ (o : Operands). (step c.before.before.before).header ≡ op_header (step c.before.before.before).op o.a.header o.b.header o.c.header) e h.header,
                 (h.value_room, h.unknown-room),
               ),
             ),
@@ -109,37 +108,32 @@ work-cells-requires c κs =
       ),
     )
 
-copy-behind-requires : tie.Need-copy-behind-requires
+copy-behind-requires : tie.Need-copy_behind-requires
 copy-behind-requires c κs =
-    let n = c.before.before.before.before in
-    let w = n.before.before.before.before.before in
     let h = ready (k w) in
     let v = value-front (step (k w)) (table (k w)) (memory (k w)) h in
     let u = unknown-front (step (k w)) (table (k w)) (memory (k w)) h in
-    let x : length (scratch w).value ≡ length (memory (k w)).scratch.value = ap (λ (p : Planes). length p.value) (worked w) ∙ v.1 in
-    let y : length (scratch w).unknown ≡ length (memory (k w)).scratch.unknown = ap (λ (p : Planes). length p.unknown) (worked w) ∙ u.1 in (
-      (omega (arith, x, h.value_room, n.word_count.ensures), omega (arith, y, h.unknown-room, n.word_count.ensures)),
-      (omega (arith, h.room, n.word_count.ensures), omega (arith, h.room, h.level, n.word_count.ensures)),
+    let x : length (scratch c.before.before.before.before.before.before.before).value ≡ length (memory (k w)).scratch.value = ap (λ (p : Planes). length p.value) (worked c.before.before.before.before.before.before.before) ∙ v.1 in
+    let y : length (scratch c.before.before.before.before.before.before.before).unknown ≡ length (memory (k w)).scratch.unknown = ap (λ (p : Planes). length p.unknown) (worked c.before.before.before.before.before.before.before) ∙ u.1 in (
+      (omega (arith, x, h.value_room, c.word_count.ensures), omega (arith, y, h.unknown-room, c.word_count.ensures)),
+      (omega (arith, h.room, c.word_count.ensures), omega (arith, h.room, h.level, c.word_count.ensures)),
     )
 
 returns : tie.Need-returns
 returns c =
-    let b = c.before.before.before.before in
-    let n = b.before.before.before.before.before in
-    let w = n.before.before.before.before.before in
     let p = step (k w) in
     let m = memory (k w) in
     let h = ready (k w) in
     let r = planes_of (planned_result p (table (k w)) m.arenas).bits in
     let e =
-    b.copy-behind.ensures
-    ∙ ap₂ (λ (i : ℕ) (q : Planes). put_planes p.start (lent (take i q.value) (take i q.unknown)) m.arenas) n.word_count.ensures (worked w)
+    c.copy_behind.ensures
+    ∙ ap₂ (λ (i : ℕ) (q : Planes). put_planes p.start (lent (take i q.value) (take i q.unknown)) m.arenas) c.word_count.ensures (worked c.before.before.before.before.before.before.before.before.before.before.before.before)
     ∙ ap₂ (λ (v u : List ℕ). put_planes p.start (lent v u) m.arenas)
     (value-front p (table (k w)) m h).0 (unknown-front p (table (k w)) m h).0 in
-    λ i. record { arenas = e i; scratch = worked w i }
+    λ i. record { arenas = e i; scratch = worked c.before.before.before.before.before.before.before.before.before.before.before.before i }
 
-pub execute-spec : {M : Type 1} → statement M
-execute-spec =
+pub execute_spec : {M : Type 1} → statement M
+execute_spec =
     tie.close
     (tie.spec
     (λ c κs. search rules)

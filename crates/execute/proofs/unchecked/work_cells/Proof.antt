@@ -39,33 +39,33 @@ read-c s = read s s.args.o.c s.requires.1.1.1.0
 plane : (x : Cell) (p arena : List ℕ) → p ≡ span x arena → Plane x.header.width (span x arena) → Plane x.header.width p
 plane x p arena e h = subst (Plane x.header.width) (sym e) h
 
-cell-words-requires : tie.Need-cell-words-requires
-cell-words-requires c κs = let s = c.before.before.before.before.before in (read_a s).value-within
+cell-words-requires : tie.Need-cell_words-xv-requires
+cell-words-requires c κs = (read_a c.before.before.before.before.before.before).value-within
 
-cell-words-requires-2 : tie.Need-cell-words-requires-2
-cell-words-requires-2 c κs = let s = c.before.before.before.before.before.before in (read_a s).unknown-within
+cell-words-requires-2 : tie.Need-cell_words-xu-requires
+cell-words-requires-2 c κs = (read_a c.before.before.before.before.before.before.before.before).unknown-within
 
-cell-words-requires-3 : tie.Need-cell-words-requires-3
-cell-words-requires-3 c κs = let s = c.before.before.before.before.before.before.before in (read-b s).value-within
+cell-words-requires-3 : tie.Need-cell_words-yv-requires
+cell-words-requires-3 c κs = (read-b c.before.before.before.before.before.before.before.before.before.before).value-within
 
-cell-words-requires-4 : tie.Need-cell-words-requires-4
-cell-words-requires-4 c κs = let s = c.before.before.before.before.before.before.before.before in (read-b s).unknown-within
+cell-words-requires-4 : tie.Need-cell_words-yu-requires
+cell-words-requires-4 c κs = (read-b c.before.before.before.before.before.before.before.before.before.before.before.before).unknown-within
 
-cell-words-requires-5 : tie.Need-cell-words-requires-5
-cell-words-requires-5 c κs = let s = c.before.before.before.before.before.before.before.before.before in (read-c s).value-within
+cell-words-requires-5 : tie.Need-cell_words-zv-requires
+cell-words-requires-5 c κs = (read-c c.before.before.before.before.before.before.before.before.before.before.before.before.before.before).value-within
 
-cell-words-requires-6 : tie.Need-cell-words-requires-6
-cell-words-requires-6 c κs = let s = c.before.before.before.before.before.before.before.before.before.before in (read-c s).unknown-within
+cell-words-requires-6 : tie.Need-cell_words-zu-requires
+cell-words-requires-6 c κs = (read-c c.before.before.before.before.before.before.before.before.before.before.before.before.before.before.before.before).unknown-within
 
 -- the words of the result
-abbrev start : tie.After-word-count → tie.Start
+abbrev start : tie.After-word_count-n → tie.Start
 start w = w.before.before.before.before.before
 
-size : (w : tie.After-word-count) → let s = start w in
-    w.word_count.result - 0 ≡ word_count (op_header s.args.op s.args.o.a.header s.args.o.b.header s.args.o.c.header).width
+size : (w : tie.After-word_count-n) → let s = start w in
+    w.word_count-n.result - 0 ≡ word_count (op_header s.args.op s.args.o.a.header s.args.o.b.header s.args.o.c.header).width
 size w =
     let e = ap (λ (h : Header). word_count h.width) (start w).requires.1.1.1.1.1.0 in
-    omega (arith, w.word_count.ensures, e)
+    omega (arith, w.word_count-n.ensures, e)
 
 part-work-end : tie.Need-slice-bounds-work-end
 part-work-end c =
@@ -79,35 +79,28 @@ part-work-end-2 c =
 
 work-requires : tie.Need-work-requires
 work-requires c κs =
-    let c6 = c.before.before in
-    let c5 = c6.before in
-    let c4 = c5.before in
-    let c3 = c4.before in
-    let c2 = c3.before in
-    let c1 = c2.before in
-    let w = c1.before in
-    let s = start w in
+    let s = start c.before.before.before.before.before.before.before.before.before.before.before.before.before.before.before.before.before in
     let room = s.pre.1.1.1.1.1.1 in
     let o = s.args.o in (
       (
-        plane o.a _ _ c1.cell-words.ensures (read_a s).sound.planes.value-plane,
-        plane o.a _ _ c2.cell-words2.ensures (read_a s).sound.planes.unknown-plane,
+        plane o.a _ _ c.cell_words-xv.ensures (read_a s).sound.planes.value-plane,
+        plane o.a _ _ c.cell_words-xu.ensures (read_a s).sound.planes.unknown-plane,
       ),
       (
         (
-          plane o.b _ _ c3.cell-words3.ensures (read-b s).sound.planes.value-plane,
-          plane o.b _ _ c4.cell-words4.ensures (read-b s).sound.planes.unknown-plane,
+          plane o.b _ _ c.cell_words-yv.ensures (read-b s).sound.planes.value-plane,
+          plane o.b _ _ c.cell_words-yu.ensures (read-b s).sound.planes.unknown-plane,
         ),
         (
           (
-            plane o.c _ _ c5.cell-words5.ensures (read-c s).sound.planes.value-plane,
-            plane o.c _ _ c6.cell-words6.ensures (read-c s).sound.planes.unknown-plane,
+            plane o.c _ _ c.cell_words-zv.ensures (read-c s).sound.planes.value-plane,
+            plane o.c _ _ c.cell_words-zu.ensures (read-c s).sound.planes.unknown-plane,
           ),
           (
             s.pre.1.1.1.1.0,
             (
-              length-take-le _ _ (omega (arith, w.word_count.ensures, room.0)) ∙ size w,
-              length-take-le _ _ (omega (arith, w.word_count.ensures, room.1)) ∙ size w,
+              length-take-le _ _ (omega (arith, c.word_count-n.ensures, room.0)) ∙ size c.before.before.before.before.before.before.before.before.before.before.before.before.before.before.before.before.before,
+              length-take-le _ _ (omega (arith, c.word_count-n.ensures, room.1)) ∙ size c.before.before.before.before.before.before.before.before.before.before.before.before.before.before.before.before.before,
             ),
           ),
         ),
@@ -116,35 +109,27 @@ work-requires c κs =
 
 returns : tie.Need-returns
 returns c =
-    let k = c.before.before.before.before in
-    let c6 = k.before.before.before in
-    let c5 = c6.before in
-    let c4 = c5.before in
-    let c3 = c4.before in
-    let c2 = c3.before in
-    let c1 = c2.before in
-    let w = c1.before in
-    let s = start w in
+    let s = start c.before.before.before.before.before.before.before.before.before.before.before.before.before.before.before.before.before.before.before.before.before.before in
     let g = s.args in
     let o = g.o in
-    let n : ℕ = w.word_count.result - 0 in
+    let n : ℕ = c.word_count-n.result - 0 in
     let a = arenas s in
     let r = op_vector g.op (cell_vector a o.a) (cell_vector a o.b) (cell_vector a o.c) g.pos in
     let width = result-width (cell_vector a o.a) (cell_vector a o.b) (cell_vector a o.c) g.pos (length-tabulate _ _) (length-tabulate _ _) (length-tabulate _ _) g.op s.pre.1.1.1.1.0 in
-    let words = size w ∙ ap word_count (sym width) in
-    let e : lent k.work.new.1.1.1.1.1.1.1.1.1.1.1.0 k.work.new.1.1.1.1.1.1.1.1.1.1.1.1.0 ≡ planes_of r.bits =
-    k.work.ensures
-    ∙ (λ k.
+    let words = size c.before.before.before.before.before.before.before.before.before.before.before.before.before.before.before.before.before.before.before.before.before.before ∙ ap word_count (sym width) in
+    let e : lent c.work.new.1.1.1.1.1.1.1.1.1.1.1.0 c.work.new.1.1.1.1.1.1.1.1.1.1.1.1.0 ≡ planes_of r.bits =
+    c.work.ensures
+    ∙ (λ c.
     planes_of
     (op_vector g.op
-    (vector o.a.header (lent (c1.cell-words.ensures k) (c2.cell-words2.ensures k)))
-    (vector o.b.header (lent (c3.cell-words3.ensures k) (c4.cell-words4.ensures k)))
-    (vector o.c.header (lent (c5.cell-words5.ensures k) (c6.cell-words6.ensures k))) g.pos).bits) in
+    (vector o.a.header (lent (c.cell_words-xv.ensures c) (c.cell_words-xu.ensures c)))
+    (vector o.b.header (lent (c.cell_words-yv.ensures c) (c.cell_words-yu.ensures c)))
+    (vector o.c.header (lent (c.cell_words-zv.ensures c) (c.cell_words-zu.ensures c))) g.pos).bits) in
     front-back n _ (planes_of r.bits) (lent g.ov.now g.ou.now) e
     (words ∙ sym (value-plane r.bits).count) (words ∙ sym (unknown-plane r.bits).count)
 
-pub work-cells-spec : {M : Type 1} → statement M
-work-cells-spec =
+pub work_cells_spec : {M : Type 1} → statement M
+work_cells_spec =
     tie.close
     (tie.spec
     (λ c κs. search rules)

@@ -20,58 +20,52 @@ use Rattle.insert.proofs.unchecked.splice_bits64.Statement.{statement}
 use Rattle.insert.proofs.unchecked.splice_bits64.Tie as tie
 
 -- where the words were read out and compared
-module _ (i : tie.After-is-word) where
-  abbrev counted : tie.After-least2
-  counted = i.before.before.before.before.before.before.before
+module _ (i : tie.After-is_word) where
+  abbrev counted : tie.After-least-count
+  counted = i.before.before.before.before.before
 
-  told : let a = counted.before.before.before.before.before.args in
-      i.is_IsWord.result ≡ stands (from_planes a.width a.value.now a.unknown.now) a.pos a.n a.bits
+  told : let a = counted.args in
+      i.is_word.result ≡ stands (from_planes a.width a.value.now a.unknown.now) a.pos a.n a.bits
   told =
-      let o = i.before.before.before in
       let n = counted in
-      let a = n.before.before.before.before.before.args in
+      let a = n.args in
       let bs = from_planes a.width a.value.now a.unknown.now in
-      i.is_IsWord.ensures
-      ∙ ap₂ (λ (w : Word) (m : ℕ). eqb w.value (bit_and a.bits.value m) && eqb w.unknown (bit_and a.bits.unknown m)) o.before.extract64.ensures o.ones.ensures
-      ∙ told-by-words bs a.pos n.least2.result a.bits (omega (arith, n.least2.ensures, n.before.least.ensures)) i.before.struct-known2.given.0.fits i.before.struct-known2.given.1.0.fits
+      i.is_word.ensures
+      ∙ ap₂ (λ (w : Word) (m : ℕ). eqb w.value (bit_and a.bits.value m) && eqb w.unknown (bit_and a.bits.unknown m)) i.extract64-old.ensures i.ones-m.ensures
+      ∙ told-by-words bs a.pos n.least-count.result a.bits (omega (arith, n.least-count.ensures, n.least-room.ensures)) i.struct_known-2-1.given.0.fits i.struct_known-2-1.given.1.0.fits
       ∙ ap (λ (k : ℕ). all_below k (λ j. same (bit_of a.bits j) (at bs (a.pos + j))))
-      (n.least2.ensures ∙ ap (min a.n) (n.before.least.ensures ∙ ap (λ (k : ℕ). min 64 (k - a.pos)) (sym (length-tabulate a.width _))))
+      (n.least-count.ensures ∙ ap (min a.n) (n.least-room.ensures ∙ ap (λ (k : ℕ). min 64 (k - a.pos)) (sym (length-tabulate a.width _))))
 
-returns : tie.Need-returns
+returns : tie.Need-returns-then-w-pos
 unfolding all_below
 returns c =
-    let s = c.before.before.before in
-    let a = s.args in
+    let a = c.args in
     let v = a.value.now in
     let u = a.unknown.now in
     let bs = from_planes a.width v u in
-    let e : splice_count (length bs) a.pos a.n ≡ 0 = simp length-tabulate (omega (arith, c.if1.true)) in (
+    let e : splice_count (length bs) a.pos a.n ≡ 0 = simp length-tabulate (omega (arith, c.if-w-pos.true)) in (
       sym (ap (λ (k : ℕ). not (all_below k (λ j. same (bit_of a.bits j) (at bs (a.pos + j))))) e),
-      planes-again a.width v u s.requires.0 s.requires.1 (λ k. (c.before.before.slice-known.given k).fits) (λ k. (c.before.slice-known2.given k).fits)
-          ∙ ap planes_of (sym (spliced-none bs a.pos a.n a.bits (simp length-tabulate c.if1.true))),
+      planes-again a.width v u c.requires.0 c.requires.1 (λ k. (c.slice_known-1.given k).fits) (λ k. (c.slice_known-2-1.given k).fits)
+          ∙ ap planes_of (sym (spliced-none bs a.pos a.n a.bits (simp length-tabulate c.if-w-pos.true))),
     )
 
-returns-2 : tie.Need-returns-2
+returns-2 : tie.Need-returns-then-is_word
 returns-2 c =
-    let i = c.before in
-    let n = counted i in
-    let s = n.before.before.before.before.before in
-    let a = s.args in
+    let n = counted c.before in
+    let a = n.args in
     let v = a.value.now in
     let u = a.unknown.now in (
-      sym (ap not (sym (told i) ∙ c.if2.true)),
-      planes-again a.width v u s.pre.0 s.pre.1 (λ k. (n.before.before.before.before.slice-known.given k).fits) (λ k. (n.before.before.before.slice-known2.given k).fits)
-          ∙ ap planes_of (sym (stands-spliced (from_planes a.width v u) a.pos a.n a.bits (sym (told i) ∙ c.if2.true))),
+      sym (ap not (sym (told c.before) ∙ c.if-is_word.true)),
+      planes-again a.width v u n.requires.0 n.requires.1 (λ k. (n.slice_known-1.given k).fits) (λ k. (n.slice_known-2-1.given k).fits)
+          ∙ ap planes_of (sym (stands-spliced (from_planes a.width v u) a.pos a.n a.bits (sym (told c.before) ∙ c.if-is_word.true))),
     )
 
-returns-3 : tie.Need-returns-3
+returns-3 : tie.Need-returns
 returns-3 c =
-    let p = c.before.before.before.before in
-    let e = p.before.before.before in
-    (sym (ap not (sym (told e.before) ∙ e.if2.false)), p.splice64.ensures)
+    (sym (ap not (sym (told c.before.before.before.before.before.before.before.before) ∙ c.if-is_word.false)), c.splice64.ensures)
 
-pub splice-bits64-spec : {M : Type 1} → statement M
-splice-bits64-spec =
+pub splice_bits64_spec : {M : Type 1} → statement M
+splice_bits64_spec =
     tie.close
     (tie.spec
     returns

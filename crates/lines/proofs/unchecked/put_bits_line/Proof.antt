@@ -11,57 +11,49 @@ use borrow.Author.Rules.{rules}
 use Rattle.lines.proofs.unchecked.put_bits_line.Statement.{statement}
 use Rattle.lines.proofs.unchecked.put_bits_line.Tie as tie
 
-put-bytes-requires : tie.Need-put-bytes-requires
+put-bytes-requires : tie.Need-put_bytes-i-requires
 put-bytes-requires c κs = search rules
 
-put-bits-requires : tie.Need-put-bits-requires
+put-bits-requires : tie.Need-put_bits-end-requires
 put-bits-requires c κs =
-    let w = c.before.before.before in
-    let s = w.before.before.before.before.before.before in
-    (omega (arith, s.requires.0, place_of _ _ _ w.put-bytes.ensures, w.put-bytes.auto.0), s.requires.1)
+    (omega (arith, c.requires.0, place_of _ _ _ c.put_bytes-i.ensures, c.put_bytes-i.auto.0), c.requires.1)
 
 -- there is room for LF
-room : (v : tie.After-put-bits) → v.put-bits.result < length v.put-bits.new.0
+room : (v : tie.After-put_bits-end) → v.put_bits-end.result < length v.put_bits-end.new.0
 room v =
-    let w = v.before.before.before.before in
-    let s = w.before.before.before.before.before.before in
-    let a = s.args in
+    let a = v.args in
     let bs = from_planes a.width a.value.now a.unknown.now in
     omega (
       arith,
-      s.requires.0,
-      place_of _ _ _ w.put-bytes.ensures,
-      w.put-bytes.auto.0,
-      place_of _ _ _ v.put-bits.ensures,
+      v.requires.0,
+      place_of _ _ _ v.put_bytes-i.ensures,
+      v.put_bytes-i.auto.0,
+      place_of _ _ _ v.put_bits-end.ensures,
       length-bits bs,
       length-planes a.width a.value.now a.unknown.now,
-      v.put-bits.auto.0,
+      v.put_bits-end.auto.0,
     )
 
-slice-write-out : tie.Need-slice-write-out
+slice-write-out : tie.Need-bounds-out-end
 slice-write-out c = room c.before.before
 
-add-result : tie.Need-overflow-add-result
+add-result : tie.Need-overflow_add-result
 add-result c = omega (arith, room c.before.before)
 
-same_length : tie.Need-same-length
+same_length : tie.Need-shape_of-out
 same_length c =
-    let v = c.before.before in
-    simp length-set (v.put-bits.auto.0 ∙ v.before.before.before.before.put-bytes.auto.0)
+    simp length-set (c.put_bits-end.auto.0 ∙ c.put_bytes-i.auto.0)
 
 returns : tie.Need-returns
 unfolding bits_text
 returns c =
-    let v = c.before.before in
-    let w = v.before.before.before.before in
-    let s = w.before.before.before.before.before.before in
-    let a = s.args in
+    let a = c.args in
     let bs = from_planes a.width a.value.now a.unknown.now in
-    three a.out.now a.at a.key.now (bit_digits bs) line_end w.put-bytes.ensures v.put-bits.ensures
-    (put_byte v.put-bits.new.0 v.put-bits.result 10 (room v)) (omega (arith, s.requires.0))
+    three a.out.now a.at a.key.now (bit_digits bs) line_end c.put_bytes-i.ensures c.put_bits-end.ensures
+    (put_byte c.put_bits-end.new.0 c.put_bits-end.result 10 (room c.before.before)) (omega (arith, c.requires.0))
 
-pub put-bits-line-spec : {M : Type 1} → statement M
-put-bits-line-spec =
+pub put_bits_line_spec : {M : Type 1} → statement M
+put_bits_line_spec =
     tie.close
     (tie.spec
     put-bytes-requires

@@ -9,57 +9,48 @@ use Rattle.lines.proofs.Put.{put_byte, place_of, three, length-line}
 use Rattle.lines.proofs.unchecked.put_number_line.Statement.{statement}
 use Rattle.lines.proofs.unchecked.put_number_line.Tie as tie
 
-put-bytes-requires : tie.Need-put-bytes-requires
+put-bytes-requires : tie.Need-put_bytes-i-requires
 put-bytes-requires c κs =
-    let s = c.before.before.before in
-    omega (arith, length-line s.args.key.now s.args.n, s.requires)
+    omega (arith, length-line c.args.key.now c.args.n, c.requires)
 
-put-number-requires : tie.Need-put-number-requires
+put-number-requires : tie.Need-put_number-j-requires
 put-number-requires c κs =
-    let w = c.before.before.before in
-    let s = w.before.before.before.before in
-    let a = s.args in
-    omega (arith, length-line a.key.now a.n, s.requires, place_of _ _ _ w.put-bytes.ensures, w.put-bytes.auto.0)
+    let a = c.args in
+    omega (arith, length-line a.key.now a.n, c.requires, place_of _ _ _ c.put_bytes-i.ensures, c.put_bytes-i.auto.0)
 
 -- there is room for LF
-room : (v : tie.After-put-number) → v.put-number.result < length v.put-number.new.0
+room : (v : tie.After-put_number-j) → v.put_number-j.result < length v.put_number-j.new.0
 room v =
-    let w = v.before.before.before.before in
-    let s = w.before.before.before.before in
-    let a = s.args in
+    let a = v.args in
     omega (
       arith,
       length-line a.key.now a.n,
-      s.requires,
-      place_of _ _ _ w.put-bytes.ensures,
-      w.put-bytes.auto.0,
-      place_of _ _ _ v.put-number.ensures,
-      v.put-number.auto.0,
+      v.requires,
+      place_of _ _ _ v.put_bytes-i.ensures,
+      v.put_bytes-i.auto.0,
+      place_of _ _ _ v.put_number-j.ensures,
+      v.put_number-j.auto.0,
     )
 
-slice-write-out : tie.Need-slice-write-out
+slice-write-out : tie.Need-bounds-out-j
 slice-write-out c = room c.before.before
 
-add-result : tie.Need-overflow-add-result
+add-result : tie.Need-overflow_add-result
 add-result c = omega (arith, room c.before.before)
 
-same_length : tie.Need-same-length
+same_length : tie.Need-shape_of-out
 same_length c =
-    let v = c.before.before in
-    simp length-set (v.put-number.auto.0 ∙ v.before.before.before.before.put-bytes.auto.0)
+    simp length-set (c.put_number-j.auto.0 ∙ c.put_bytes-i.auto.0)
 
 returns : tie.Need-returns
 unfolding number_text
 returns c =
-    let v = c.before.before in
-    let w = v.before.before.before.before in
-    let s = w.before.before.before.before in
-    let a = s.args in
-    three a.out.now a.at a.key.now (decimal a.n) line_end w.put-bytes.ensures v.put-number.ensures
-    (put_byte v.put-number.new.0 v.put-number.result 10 (room v)) (omega (arith, s.requires))
+    let a = c.args in
+    three a.out.now a.at a.key.now (decimal a.n) line_end c.put_bytes-i.ensures c.put_number-j.ensures
+    (put_byte c.put_number-j.new.0 c.put_number-j.result 10 (room c.before.before)) (omega (arith, c.requires))
 
-pub put-number-line-spec : {M : Type 1} → statement M
-put-number-line-spec =
+pub put_number_line_spec : {M : Type 1} → statement M
+put_number_line_spec =
     tie.close
     (tie.spec
     put-bytes-requires

@@ -70,69 +70,67 @@ made {r} {s} {from} {v} {u} {p} {i} h l t = ⊎_elim none (λ m. m) (eq-or-lt_of
         let z : ◌≡◌ {A = ℕ} 0 1 = cc in
         absurd (omega arith)
 
-abbrev invariant-loop : tie.invariant-loop
+abbrev invariant-loop : tie.invariant-loop-i
 invariant-loop s from r value₀ unknown₀ power₀ i₀ value unknown power i = Read r s from value unknown power i
 
-abbrev decreases-loop : tie.decreases-loop
+abbrev decreases-loop : tie.decreases-loop-i
 decreases-loop s from r value₀ unknown₀ power₀ i₀ value unknown power i = length s - i
 
-loop-holds : tie.Need-loop-init invariant-loop decreases-loop
+loop-holds : tie.Need-loop-i-init invariant-loop decreases-loop
 loop-holds c =
-    let t = c.before in
     record {
       begun = omega arith;
       first = λ e. refl;
       small = omega arith;
-      rest = t.requires.1;
-      to_value = goes_none _ (value_number t.args.r) _;
-      to_unknown = goes_none _ (unknown_number t.args.r) _;
+      rest = c.requires.1;
+      to_value = goes_none _ (value_number c.args.r) _;
+      to_unknown = goes_none _ (unknown_number c.args.r) _;
     }
 
-module _ (c : tie.In-loop invariant-loop decreases-loop) where
-  test : (c.before.loop.i < length c.before.before.before.args.s.now) × (c.before.loop.power ≤ 2 ^ 28)
-  test = let q = and-true _ _ c.loop-test.true in (ltb-true _ _ q.0, leb-true _ _ q.1)
+module _ (c : tie.In-loop-i invariant-loop decreases-loop) where
+  test : (c.loop-i.i < length c.args.s.now) × (c.loop-i.power ≤ 2 ^ 28)
+  test = let q = and-true _ _ c.loop-i-test.true in (ltb-true _ _ q.0, leb-true _ _ q.1)
 
-  few : c.before.loop.power * c.before.before.before.args.r ≤ 2 ^ 32
-  few = mul-le-mul test.1 c.before.before.before.requires.0.1
+  few : c.loop-i.power * c.args.r ≤ 2 ^ 32
+  few = mul-le-mul test.1 c.requires.0.1
 
-module _ (c : tie.Then1 invariant-loop decreases-loop) where
-  abbrev at : tie.At-loop invariant-loop decreases-loop
+module _ (c : tie.Then-c-ne95 invariant-loop decreases-loop) where
+  abbrev at : tie.At-loop-i invariant-loop decreases-loop
   at = c.before.before.before
 
   abbrev x : ℕ
-  x = get_or at.before.before.args.s.now at.loop.i 0
+  x = get_or at.args.s.now at.loop-i.i 0
 
-  turn : {d e : ℕ} → let a = at.before.before.args in let l = at.loop in
+  turn : {d e : ℕ} → let a = at.args in let l = at.loop-i in
       d ≡ value_number a.r x → e ≡ unknown_number a.r x
       → Read a.r a.s.now a.from (l.value * a.r + d) (l.unknown * a.r + e) (l.power * a.r) (l.i + 1)
-  turn D E = digit at.loop.inv (test c.before.before).0 at.before.before.pre.0.0 (few c.before.before) D E c.if1.true
+  turn D E = digit at.loop-i.invariant (test c.before.before).0 at.requires.0.0 (few c.before.before) D E c.if-c-ne95.true
 
-  value-fits : {d : ℕ} → d ≡ value_number at.before.before.args.r x → at.loop.value * at.before.before.args.r + d < 2 ^ 32
+  value-fits : {d : ℕ} → d ≡ value_number at.args.r x → at.loop-i.value * at.args.r + d < 2 ^ 32
   value-fits D = omega (arith, few c.before.before, (turn D refl).small.1)
 
-  unknown-fits : {e : ℕ} → e ≡ unknown_number at.before.before.args.r x → at.loop.unknown * at.before.before.args.r + e < 2 ^ 32
+  unknown-fits : {e : ℕ} → e ≡ unknown_number at.args.r x → at.loop-i.unknown * at.args.r + e < 2 ^ 32
   unknown-fits E = omega (arith, few c.before.before, (turn refl E).small.2)
 
-loop-again : tie.Need-loop-preserved invariant-loop decreases-loop
-loop-again c = turn c.before.before c.before.value-number.ensures c.unknown-number.ensures
+loop-again : tie.Need-loop-i-preserved-then-c-ne95 invariant-loop decreases-loop
+loop-again c = turn c.before.before c.value_number.ensures c.unknown_number.ensures
 
-loop-again-2 : tie.Need-loop-preserved-2 invariant-loop decreases-loop
-loop-again-2 c = over c.before.before.before.loop.invariant (test c.before.before).0 c.if1.false
+loop-again-2 : tie.Need-loop-i-preserved invariant-loop decreases-loop
+loop-again-2 c = over c.loop-i.invariant (test c.before.before).0 c.if-c-ne95.false
 
 returns : tie.Need-returns invariant-loop decreases-loop
 returns c =
-    let l = c.before in
-    let h = l.loop.invariant in
+    let h = c.loop-i.invariant in
     record {
-      further = made h l.before.before.requires.0.2 c.loop-test.false;
+      further = made h c.requires.0.2 c.loop-i-test.false;
       small = h.small;
       rest = h.rest;
       to_value = h.to_value;
       to_unknown = h.to_unknown;
     }
 
-pub read-chunk-spec : {M : Type 1} → statement M
-read-chunk-spec =
+pub read_chunk_spec : {M : Type 1} → statement M
+read_chunk_spec =
     tie.close
     (tie.spec
     invariant-loop
@@ -142,10 +140,10 @@ read-chunk-spec =
     (λ c. omega (arith, (test c.before).0))
     (λ c. omega (arith, value-fits c refl))
     (λ c κs. search rules)
-    (λ c. omega (arith, value-fits c.before c.value-number.ensures))
+    (λ c. omega (arith, value-fits c.before c.value_number.ensures))
     (λ c. omega (arith, unknown-fits c.before refl))
     (λ c κs. search rules)
-    (λ c. omega (arith, unknown-fits c.before.before c.unknown-number.ensures))
+    (λ c. omega (arith, unknown-fits c.before.before c.unknown_number.ensures))
     (λ c. omega (arith, few c.before.before.before.before))
     (λ c. omega (arith, (test c.before.before.before.before).0))
     loop-again

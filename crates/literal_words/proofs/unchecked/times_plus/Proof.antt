@@ -20,13 +20,13 @@ record Passed (f a : ℕ) (p q : List ℕ) (carry k : ℕ) : Type 0 where
   kept : (i : ℕ) → k ≤ i → get_or q i 0 ≡ get_or p i 0
   taken : (n : ℕ) → p ≡ words_of (length p) n → (carry ≡ carried f a n k) × FilledTo 0 (word (n * f + a)) (length p) k q
 
-abbrev invariant-loop : tie.invariant-loop
+abbrev invariant-loop : tie.invariant-loop-k
 invariant-loop plane₀ factor add carry₀ k₀ plane carry k = Passed factor add plane₀ plane carry k
 
-abbrev decreases-loop : tie.decreases-loop
+abbrev decreases-loop : tie.decreases-loop-k
 decreases-loop plane₀ factor add carry₀ k₀ plane carry k = length plane₀ - k
 
-loop-holds : tie.Need-loop-init invariant-loop decreases-loop
+loop-holds : tie.Need-loop-k-init invariant-loop decreases-loop
 loop-holds c = record {
   within = omega arith;
   long = refl;
@@ -35,42 +35,42 @@ loop-holds c = record {
   taken = λ n e. (carry-none c.args.factor c.args.add n, start refl);
 }
 
-module _ (c : tie.After-slice-known invariant-loop decreases-loop) where
-  abbrev at : tie.At-loop invariant-loop decreases-loop
+module _ (c : tie.After-slice_known-1 invariant-loop decreases-loop) where
+  abbrev at : tie.At-loop-k invariant-loop decreases-loop
   at = c.before.before
 
   abbrev x : ℕ
-  x = get_or at.loop.plane at.loop.k 0
+  x = get_or at.loop-k.plane at.loop-k.k 0
 
-  small : let f = at.before.args.factor in (x % 2 ^ 32 * f ≤ (2 ^ 32 - 1) * 2 ^ 32) × (x / 2 ^ 32 * f ≤ (2 ^ 32 - 1) * 2 ^ 32)
-  small = half-small x at.before.args.factor at.before.pre.0 (c.slice-known.given at.loop.k).fits
+  small : let f = at.args.factor in (x % 2 ^ 32 * f ≤ (2 ^ 32 - 1) * 2 ^ 32) × (x / 2 ^ 32 * f ≤ (2 ^ 32 - 1) * 2 ^ 32)
+  small = half-small x at.args.factor at.requires.0 (c.slice_known-1.given at.loop-k.k).fits
 
-loop-again : tie.Need-loop-preserved invariant-loop decreases-loop
+loop-again : tie.Need-loop-k-preserved invariant-loop decreases-loop
 loop-again c =
     let l = at c in
-    let a = l.before.args in
-    let v = l.loop.inv in
-    let h = halves (x c) a.factor l.loop.carry in
+    let a = l.args in
+    let v = l.loop-k.invariant in
+    let h = halves (x c) a.factor l.loop-k.carry in
     record {
       within = omega arith;
       long = simp length-set v.long;
       small = omega (arith, (small c).0, (small c).1);
-      kept = λ i m. get_or-set_other l.loop.plane l.loop.k i _ 0 (omega arith) ∙ v.kept i (omega arith);
+      kept = λ i m. get_or-set_other l.loop-k.plane l.loop-k.k i _ 0 (omega arith) ∙ v.kept i (omega arith);
       taken = λ n e. let t = v.taken n e in
-          let here : x c ≡ word n l.loop.k = v.kept _ (omega arith) ∙ word-at a.plane.now n l.loop.k e (omega arith) in
-          let now : x c * a.factor + l.loop.carry ≡ word n l.loop.k * a.factor + carried a.factor a.add n l.loop.k =
+          let here : x c ≡ word n l.loop-k.k = v.kept _ (omega arith) ∙ word-at a.plane.now n l.loop-k.k e (omega arith) in
+          let now : x c * a.factor + l.loop-k.carry ≡ word n l.loop-k.k * a.factor + carried a.factor a.add n l.loop-k.k =
           ap₂ (λ (y z : ℕ). y * a.factor + z) here t.0 in (
-            h.1 ∙ ap (λ (y : ℕ). y / 2 ^ 64) now ∙ sym (carry-turn a.factor a.add n l.loop.k),
-            more t.1 (omega arith) (h.0 ∙ ap (λ (y : ℕ). y % 2 ^ 64) now ∙ sym (word-turn a.factor a.add n l.loop.k)),
+            h.1 ∙ ap (λ (y : ℕ). y / 2 ^ 64) now ∙ sym (carry-turn a.factor a.add n l.loop-k.k),
+            more t.1 (omega arith) (h.0 ∙ ap (λ (y : ℕ). y % 2 ^ 64) now ∙ sym (word-turn a.factor a.add n l.loop-k.k)),
           );
     }
 
 returns : tie.Need-returns invariant-loop decreases-loop
 unfolding words_of
-returns c = λ n e. done (c.before.loop.invariant.taken n e).1 (omega arith)
+returns c = λ n e. done (c.loop-k.invariant.taken n e).1 (omega arith)
 
-pub times-plus-spec : {M : Type 1} → statement M
-times-plus-spec =
+pub times_plus_spec : {M : Type 1} → statement M
+times_plus_spec =
     tie.close
     (tie.spec
     invariant-loop

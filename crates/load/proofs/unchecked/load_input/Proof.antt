@@ -19,35 +19,35 @@ front_long : (n : ℕ) (xs ys : List ℕ) → length xs ≡ n - 0 → n ≤ leng
 front_long n xs ys e = omega (arith, length-append xs ys, e)
 
 -- the planes are filled
-module _ (f : tie.After-fill-planes) where
-  abbrev w : tie.After-word-count
+module _ (f : tie.After-fill_planes) where
+  abbrev w : tie.After-word_count-n
   w = f.before.before.before
 
   abbrev st : tie.Start
   st = w.before.before.before.before.before
 
   abbrev value : List ℕ
-  value = f.fill-planes.last.1.1.1.0
+  value = f.fill_planes.new.1.1.1.0
 
   abbrev unknown : List ℕ
-  unknown = f.fill-planes.last.1.1.1.1.0
+  unknown = f.fill_planes.new.1.1.1.1.0
 
   abbrev bits : List LogicBit
   bits = bits_in st.args.text.now st.args.x.place st.args.x.header.width
 
   filled : lent value unknown ≡ planes_of bits
-  filled = f.fill-planes.ensures
+  filled = f.fill_planes.ensures
 
-  size : word_count (length bits) ≡ w.word_count.result - 0
+  size : word_count (length bits) ≡ w.word_count-n.result - 0
   size =
       let e : length bits ≡ st.args.x.header.width =
-      bits-length st.args.text.now st.args.x.place st.args.x.header.width ∙ omega (arith, st.pre.0) in
-      ap word_count e ∙ omega (arith, w.word_count.ensures)
+      bits-length st.args.text.now st.args.x.place st.args.x.header.width ∙ omega (arith, st.requires.0) in
+      ap word_count e ∙ omega (arith, w.word_count-n.ensures)
 
-  value-size : length value ≡ w.word_count.result - 0
+  value-size : length value ≡ w.word_count-n.result - 0
   value-size = ap (λ (p : Planes). length p.value) filled ∙ (value-plane bits).count ∙ size
 
-  unknown-size : length unknown ≡ w.word_count.result - 0
+  unknown-size : length unknown ≡ w.word_count-n.result - 0
   unknown-size = ap (λ (p : Planes). length p.unknown) filled ∙ (unknown-plane bits).count ∙ size
 
 part-take-input-end : tie.Need-slice-bounds-take-input-end
@@ -58,15 +58,13 @@ part-take-input-end-2 c = let f = c.before.before.before.before.before in front_
 
 returns : tie.Need-returns
 returns c =
-    let p = c.before.before.before.before in
-    let f = p.before.before.before.before.before.before.before.before.before in
-    let a = (st f).args in
-    p.take-input.ensures
+    let a = (st c.before.before.before.before.before.before.before.before.before.before.before).args in
+    c.take_input.ensures
     ∙ ap (λ (q : Planes). take_input a.count a.next a.x.header q (lent a.av.now a.au.now))
-    (ap₂ lent (take_at (value f) _ _ (value-size f)) (take_at (unknown f) _ _ (unknown-size f)) ∙ filled f)
+    (ap₂ lent (take_at (value c.before.before.before.before.before.before.before.before.before.before.before) _ _ (value-size c.before.before.before.before.before.before.before.before.before.before.before)) (take_at (unknown c.before.before.before.before.before.before.before.before.before.before.before) _ _ (unknown-size c.before.before.before.before.before.before.before.before.before.before.before)) ∙ filled c.before.before.before.before.before.before.before.before.before.before.before)
 
-pub load-input-spec : {M : Type 1} → statement M
-load-input-spec =
+pub load_input_spec : {M : Type 1} → statement M
+load_input_spec =
     tie.close
     (tie.spec
     (λ c κs. search rules)

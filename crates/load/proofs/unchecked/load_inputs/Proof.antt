@@ -49,16 +49,16 @@ record Inv (t av₀ au₀ : List ℕ) (l : StepList) (av au : List ℕ) (f : Fie
   fitted : Fitted f i next (lent av au)
   fed : Fed (state empty_store (lent av₀ au₀)) l.input_count (input t l) (state (store_of i f) (lent av au)) i
 
-abbrev invariant-loop : tie.invariant-loop
+abbrev invariant-loop : tie.invariant-loop-i
 invariant-loop text av₀ au₀ list f₀ next₀ i₀ av au f next i = Inv text av₀ au₀ list av au f next i
 
-abbrev decreases-loop : tie.decreases-loop
+abbrev decreases-loop : tie.decreases-loop-i
 decreases-loop text av₀ au₀ list f₀ next₀ i₀ av au f next i = list.input_count - i
 
 -- ---- before the first
 
 -- no cell yet
-module _ (k : tie.After-no-fields invariant-loop decreases-loop) where
+module _ (k : tie.After-no_fields-f invariant-loop decreases-loop) where
   abbrev begin : tie.Start invariant-loop decreases-loop
   begin = k.before.before.before.before
 
@@ -68,34 +68,34 @@ module _ (k : tie.After-no-fields invariant-loop decreases-loop) where
   abbrev empty : State
   empty = state empty_store lent-arenas
 
-  none : state (store_of 0 k.no_fields.result) lent-arenas ≡ empty
+  none : state (store_of 0 k.no_fields-f.result) lent-arenas ≡ empty
   none =
-      ap (λ (f : Fields). state (store_of 0 f) lent-arenas) k.no_fields.ensures
+      ap (λ (f : Fields). state (store_of 0 f) lent-arenas) k.no_fields-f.ensures
       ∙ ap (λ (s : Store). state s lent-arenas) (sym store-empty)
 
-  none-fitted : Fitted k.no_fields.result 0 0 lent-arenas
-  none-fitted = subst (λ (f : Fields). Fitted f 0 0 lent-arenas) (sym k.no_fields.ensures) (fitted_none lent-arenas)
+  none-fitted : Fitted k.no_fields-f.result 0 0 lent-arenas
+  none-fitted = subst (λ (f : Fields). Fitted f 0 0 lent-arenas) (sym k.no_fields-f.ensures) (fitted_none lent-arenas)
 
-  none-fed : Fed empty begin.args.t1.input_count (input begin.args.text.now begin.args.t1) (state (store_of 0 k.no_fields.result) lent-arenas) 0
-  none-fed = ap (λ (s : State). add_inputs s (tabulate begin.args.t1.input_count (input begin.args.text.now begin.args.t1))) (sym none)
+  none-fed : Fed empty begin.args.list.input_count (input begin.args.text.now begin.args.list) (state (store_of 0 k.no_fields-f.result) lent-arenas) 0
+  none-fed = ap (λ (s : State). add_inputs s (tabulate begin.args.list.input_count (input begin.args.text.now begin.args.list))) (sym none)
 
 -- ---- in a turn, once the input is taken
 
-module _ (a : tie.After-load-input invariant-loop decreases-loop) where
-  abbrev l : tie.At-loop invariant-loop decreases-loop
+module _ (a : tie.After-load_input invariant-loop decreases-loop) where
+  abbrev l : tie.At-loop-i invariant-loop decreases-loop
   l = a.before.before.before.before.before
 
   abbrev st : tie.Start invariant-loop decreases-loop
   st = l.before.before.before.before.before.before
 
   abbrev i : ℕ
-  i = l.loop.i
+  i = l.loop-i.i
 
   abbrev f : Fields
-  f = l.loop.f
+  f = l.loop-i.f
 
   abbrev vectors : ℕ → Vector
-  vectors = input st.args.text.now st.args.t1
+  vectors = input st.args.text.now st.args.list
 
   abbrev v : Vector
   v = vectors i
@@ -104,60 +104,60 @@ module _ (a : tie.After-load-input invariant-loop decreases-loop) where
   from = state empty_store (lent st.args.av.now st.args.au.now)
 
   abbrev s : State
-  s = state (store_of i f) (lent l.loop.av l.loop.au)
+  s = state (store_of i f) (lent l.loop-i.av l.loop-i.au)
 
   abbrev left : Planes
-  left = lent a.load-input.last.1.1.1.1.0 a.load-input.last.1.1.1.1.1.0
+  left = lent a.load_input.new.1.1.1.1.0 a.load_input.new.1.1.1.1.1.0
 
-  inside : i < st.args.t1.input_count
-  inside = a.before.before.before.before.loop-test.taken
+  inside : i < st.args.list.input_count
+  inside = a.loop-i-test.taken
 
   thin : Thin v.header
-  thin = (st.pre.inputs i inside).1
+  thin = (st.requires.inputs i inside).1
 
-  level : length l.loop.av ≡ length l.loop.au
-  level = l.loop.inv.level (omega (arith, inside))
+  level : length l.loop-i.av ≡ length l.loop-i.au
+  level = l.loop-i.invariant.level (omega (arith, inside))
 
-  laid : Laid f i l.loop.next s.arenas
-  laid = l.loop.inv.fitted.laid level
+  laid : Laid f i l.loop-i.next s.arenas
+  laid = l.loop-i.invariant.fitted.laid level
 
   places : length s.store.cells ≡ 320
   places = length-tabulate 320 (cell_of f)
 
   width : length v.bits ≡ v.header.width
   width =
-      let x = get_or st.args.t1.inputs i no_input in
-      bits-length st.args.text.now x.place x.header.width ∙ omega (arith, (st.pre.inputs i inside).0)
+      let x = get_or st.args.list.inputs i no_input in
+      bits-length st.args.text.now x.place x.header.width ∙ omega (arith, (st.requires.inputs i inside).0)
 
-  told : (y : PlaceAnswer) → a.load-input.result ≡ y → outcome (place_answer y) left ≡ take_input i (next_word s.store) v.header (planes_of v.bits) s.arenas
+  told : (y : PlaceAnswer) → a.load_input.result ≡ y → outcome (place_answer y) left ≡ take_input i (next_word s.store) v.header (planes_of v.bits) s.arenas
   told y e =
-      sym (ap (λ (x : PlaceAnswer). outcome (place_answer x) left) e) ∙ a.load-input.ensures
+      sym (ap (λ (x : PlaceAnswer). outcome (place_answer x) left) e) ∙ a.load_input.ensures
       ∙ ap (λ (n : ℕ). take_input i n v.header (planes_of v.bits) s.arenas) laid.words
 
 -- where it is refused
-module _ (r : tie.After-known-told invariant-loop decreases-loop) where
-  abbrev at-refused : tie.After-load-input invariant-loop decreases-loop
+module _ (r : tie.In-Refused invariant-loop decreases-loop) where
+  abbrev at-refused : tie.After-load_input invariant-loop decreases-loop
   at-refused = r.before.before.before.before.before.before.before
 
   abbrev number : ℕ
-  number = refusal_number r.before.r.given.0.0
+  number = refusal_number r.in-Refused.r
 
   not_taken : outcome (refused number) (left at-refused) ≡ take_input (i at-refused) (next_word (s at-refused).store) (v at-refused).header (planes_of (v at-refused).bits) (s at-refused).arenas
-  not_taken = told at-refused (Refused r.before.r.given.0.0) r.before.r.given.1
+  not_taken = told at-refused (Refused r.in-Refused.r) r.in-Refused.is
 
 -- where it has a cell
-module _ (r : tie.After-known-told2 invariant-loop decreases-loop) where
-  abbrev b : tie.After-load-input invariant-loop decreases-loop
+module _ (r : tie.In-At invariant-loop decreases-loop) where
+  abbrev b : tie.After-load_input invariant-loop decreases-loop
   b = r.before.before.before.before.before.before.before
 
   abbrev at : ℕ
-  at = r.before.at.given.0.0
+  at = r.in-At.at
 
   abbrev h : Header
   h = (v b).header
 
   taken : outcome (given at) (left b) ≡ take_input (i b) (next_word (s b).store) h (planes_of (v b).bits) (s b).arenas
-  taken = told b (At at) r.before.at.given.1
+  taken = told b (At at) r.in-At.is
 
   is : InputTaken (s b) h (planes_of (v b).bits) (places b) (laid b).agreed at (left b)
   is = input-taken (s b) h (planes_of (v b).bits) (places b) (laid b).agreed at (left b) taken
@@ -173,47 +173,43 @@ module _ (r : tie.After-known-told2 invariant-loop decreases-loop) where
   within : at + word_count h.width ≤ length (left b).value
   within = omega (arith, more.words, next-within (left b) _ (i b + 1) more.agreed)
 
-returns : tie.Need-returns invariant-loop decreases-loop
+returns : tie.Need-returns-then-list-av invariant-loop decreases-loop
 returns c =
-    let k = c.before in
-    let g = (begin k).args in
+    let g = (begin c.before).args in
     let n = g.t1.input_count in
     let x = input g.text.now g.t1 in
-    let u = uneven n (length g.av.now) (length g.au.now) c.if1.true in
-    let s = state (store_of 0 k.no_fields.result) (lent-arenas k) in
+    let u = uneven n (length g.av.now) (length g.au.now) c.if-list-av.true in
+    let s = state (store_of 0 c.no_fields-f.result) (lent-arenas c.before) in
     let e = (store-refused s 14 (state-uneven s u.1)).0 (x 0).header (planes_of (x 0).bits) in
-    (feed-last n x (empty k) s 0 (none-fed k) u.0 14 s e, none-fitted k)
+    (feed-last n x (empty c.before) s 0 (none-fed c.before) u.0 14 s e, none-fitted c.before)
 
-loop-holds : tie.Need-loop-init invariant-loop decreases-loop
+loop-holds : tie.Need-loop-i-init invariant-loop decreases-loop
 loop-holds c =
-    let k = c.before in
-    let g = (begin k).args in
+    let g = (begin c.before).args in
     record {
       value-long = refl;
       unknown-long = refl;
       within = omega arith;
-      level = even g.t1.input_count (length g.av.now) (length g.au.now) c.if1.false;
-      fitted = none-fitted k;
-      fed = none-fed k;
+      level = even g.t1.input_count (length g.av.now) (length g.au.now) c.if-list-av.false;
+      fitted = none-fitted c.before;
+      fed = none-fed c.before;
     }
 
-mul-x : tie.Need-overflow-mul-x invariant-loop decreases-loop
-mul-x c = omega (arith, c.loop-test.true, c.before.before.before.before.before.before.before.requires.few-inputs)
+mul-x : tie.Need-offset_bounds-list-i invariant-loop decreases-loop
+mul-x c = omega (arith, c.loop-i-test.true, c.requires.few-inputs)
 
-element-copy-out-x : tie.Need-element-copy-out-x invariant-loop decreases-loop
-element-copy-out-x c = omega (arith, c.loop-test.true, c.before.before.before.before.before.before.before.requires.few-inputs)
+element-copy-out-x : tie.Need-bounds-list-i invariant-loop decreases-loop
+element-copy-out-x c = omega (arith, c.loop-i-test.true, c.requires.few-inputs)
 
-load-input-requires : tie.Need-load-input-requires invariant-loop decreases-loop
+load-input-requires : tie.Need-load_input-requires invariant-loop decreases-loop
 load-input-requires c κs =
-    let l = c.before.before.before.before in
-    let st = l.before.before.before.before.before.before in
-    let inside = c.before.before.before.loop-test.true in
-    let level = l.loop.invariant.level (omega (arith, inside)) in
-    let laid = l.loop.invariant.fitted.laid level in
-    let within = next-within (lent l.loop.av l.loop.au) (places_of l.loop.f) l.loop.i laid.agreed in
-    (st.requires.inputs l.loop.i inside, (omega (arith, within, laid.words), level))
+    let inside = c.loop-i-test.true in
+    let level = c.loop-i.invariant.level (omega (arith, inside)) in
+    let laid = c.loop-i.invariant.fitted.laid level in
+    let within = next-within (lent c.loop-i.av c.loop-i.au) (places_of c.loop-i.f) c.loop-i.i laid.agreed in
+    (c.requires.inputs c.loop-i.i inside, (omega (arith, within, laid.words), level))
 
-returns-2 : tie.Need-returns-2 invariant-loop decreases-loop
+returns-2 : tie.Need-returns-in-Refused invariant-loop decreases-loop
 returns-2 c =
     let a = at-refused c in
     let p = planes_of (v a).bits in
@@ -222,67 +218,64 @@ returns-2 c =
       subst (Fitted (f a) (i a) (l a).loop.next) (sym e.0) (l a).loop.inv.fitted,
     )
 
-loop-again : tie.Need-loop-preserved invariant-loop decreases-loop
+loop-again : tie.Need-loop-i-preserved invariant-loop decreases-loop
 loop-again c =
-    let t = c.before.before in
-    let a = b t in
-    let kept = a.load-input.kept.1.1.1.1 in
-    let w : at t + c.word_count.result ≡ at t + word_count (h t).width = ap (λ (n : ℕ). at t + n) c.word_count.ensures in
-    let x = ap (λ (z : Store). outcome (given (i a)) (state z (left a))) (sym (with-fields (f a) (i a) (cell t) (l a).loop.inv.fitted.whole (is t).few)) ∙ (is t).added in
+    let a = b c.before.before in
+    let kept = a.load_input.kept.1.1.1.1 in
+    let w : at c.before.before + c.word_count.result ≡ at c.before.before + word_count (h c.before.before).width = ap (λ (n : ℕ). at c.before.before + n) c.word_count.ensures in
+    let x = ap (λ (z : Store). outcome (given (i a)) (state z (left a))) (sym (with-fields (f a) (i a) (cell c.before.before) (l a).loop.inv.fitted.whole (is c.before.before).few)) ∙ (is c.before.before).added in
     record {
       value-long = kept.0 ∙ (l a).loop.inv.value-long;
       unknown-long = kept.1.0 ∙ (l a).loop.inv.unknown-long;
       within = omega (arith, inside a);
       level = λ z. kept.0 ∙ level a ∙ sym kept.1.0;
-      fitted = fitted-more (f a) (i a) (l a).loop.next (s a).arenas (l a).loop.inv.fitted (is t).few (cell t) (thin a) _ (left a) w (more t);
+      fitted = fitted-more (f a) (i a) (l a).loop.next (s a).arenas (l a).loop.inv.fitted (is c.before.before).few (cell c.before.before) (thin a) _ (left a) w (more c.before.before);
       fed =
           feed-more (st a).args.t1.input_count (vectors a) (from a) (s a) (i a) (l a).loop.inv.fed (inside a) (i a)
-          (state (store_of (i a + 1) (put_fields (f a) (i a) (cell t))) (left a)) x;
+          (state (store_of (i a + 1) (put_fields (f a) (i a) (cell c.before.before))) (left a)) x;
     }
 
-mul-f : tie.Need-overflow-mul-f invariant-loop decreases-loop
+mul-f : tie.Need-offset_bounds-f-i invariant-loop decreases-loop
 mul-f c = omega (arith, (is c.before).few)
 
-element-write-f : tie.Need-element-write-f invariant-loop decreases-loop
+element-write-f : tie.Need-bounds-f-i invariant-loop decreases-loop
 element-write-f c = omega (arith, (is c.before).few)
 
-mul-f-2 : tie.Need-overflow-mul-f-2 invariant-loop decreases-loop
+mul-f-2 : tie.Need-offset_bounds-f-i-in-At invariant-loop decreases-loop
 mul-f-2 c = omega (arith, (is c.before).few)
 
-element-write-f-2 : tie.Need-element-write-f-2 invariant-loop decreases-loop
+element-write-f-2 : tie.Need-bounds-f-i-in-At invariant-loop decreases-loop
 element-write-f-2 c = omega (arith, (is c.before).few)
 
-element-write-f-3 : tie.Need-element-write-f-3 invariant-loop decreases-loop
+element-write-f-3 : tie.Need-bounds-f-i-in-At-2 invariant-loop decreases-loop
 element-write-f-3 c = omega (arith, (is c.before).few)
 
-element-write-f-4 : tie.Need-element-write-f-4 invariant-loop decreases-loop
+element-write-f-4 : tie.Need-bounds-f-i-in-At-3 invariant-loop decreases-loop
 element-write-f-4 c = omega (arith, (is c.before).few)
 
-add-next : tie.Need-overflow-add-next invariant-loop decreases-loop
+add-next : tie.Need-overflow_add-next invariant-loop decreases-loop
 add-next c =
-    let t = c.before.before in
-    let a = b t in
-    omega (arith, within t, c.word_count.ensures, a.load-input.kept.1.1.1.1.0, (l a).loop.inv.value-long, (st a).good.1.1.0)
+    let a = b c.before.before in
+    omega (arith, within c.before.before, c.word_count.ensures, a.load_input.kept.1.1.1.1.0, (l a).loop.inv.value-long, (st a).good.1.1.0)
 
-add-i : tie.Need-overflow-add-i invariant-loop decreases-loop
-add-i c = let t = c.before.before in omega (arith, (is t).few)
+add-i : tie.Need-overflow_add-i invariant-loop decreases-loop
+add-i c = omega (arith, (is c.before.before).few)
 
-loop-less : tie.Need-loop-smaller invariant-loop decreases-loop
-loop-less c = let t = c.before.before in omega (arith, inside (b t))
+loop-less : tie.Need-loop-i-smaller invariant-loop decreases-loop
+loop-less c = omega (arith, inside (b t))
 
-returns-3 : tie.Need-returns-3 invariant-loop decreases-loop
+returns-3 : tie.Need-returns invariant-loop decreases-loop
 returns-3 c =
-    let l = c.before in
-    let a = l.before.before.before.before.before.before.args in
+    let a = c.args in
     let n = a.t1.input_count in
     let x = input a.text.now a.t1 in (
-      feed-done n x (state empty_store (lent a.av.now a.au.now)) (state (store_of l.loop.i l.loop.f) (lent l.loop.av l.loop.au)) l.loop.i
-          l.loop.invariant.fed c.loop-test.false,
-      l.loop.invariant.fitted,
+      feed-done n x (state empty_store (lent a.av.now a.au.now)) (state (store_of c.loop-i.i c.loop-i.f) (lent c.loop-i.av c.loop-i.au)) c.loop-i.i
+          c.loop-i.invariant.fed c.loop-i-test.false,
+      c.loop-i.invariant.fitted,
     )
 
-pub load-inputs-spec : {M : Type 1} → statement M
-load-inputs-spec =
+pub load_inputs_spec : {M : Type 1} → statement M
+load_inputs_spec =
     tie.close
     (tie.spec
     invariant-loop

@@ -7,36 +7,34 @@ use borrow.Author.Rules.{rules}
 use Rattle.plan.proofs.unchecked.plan_input.Statement.{statement}
 use Rattle.plan.proofs.unchecked.plan_input.Tie as tie
 
-returns : tie.Need-returns
-returns c = simp (le-leb _ _ c.if1.true)
+returns : tie.Need-returns-then-count-ge320
+returns c = simp (le-leb _ _ c.if-count-ge320.true)
 
-returns-2 : tie.Need-returns-2
-returns-2 c = simp (lt-leb _ _ c.before.before.before.if1.false, c.before.checked.given.1)
+returns-2 : tie.Need-returns-in-Refused
+returns-2 c = simp (lt-leb _ _ c.if-count-ge320.false, c.in-Refused.is)
 
 -- the vector is in order
-module _ (w : tie.After-word-count) where
-  abbrev told : tie.After-enum-told
+module _ (w : tie.After-word_count) where
+  abbrev told : tie.In-Accepted
   told = w.before.before
 
   abbrev start : tie.Start
   start = told.before.before.before
 
-returns-3 : tie.Need-returns-3
+returns-3 : tie.Need-returns-then-room-next
 returns-3 c =
-    let w = c.before in
-    let a = (start w).args in
-    let h : a.room.arena - a.next < word_count a.width = omega (arith, w.word_count.ensures, c.if2.true) in
-    simp (lt-leb _ _ (told w).before.before.if1.false, (told w).enum_told.given.1, lt-ltb _ _ h)
+    let a = (start c.before).args in
+    let h : a.room.arena - a.next < word_count a.width = omega (arith, c.word_count.ensures, c.if-room-next.true) in
+    simp (lt-leb _ _ (told c.before).before.before.if1.false, (told c.before).enum_told.given.1, lt-ltb _ _ h)
 
-returns-4 : tie.Need-returns-4
+returns-4 : tie.Need-returns-else-room-next
 returns-4 c =
-    let w = c.before in
-    let a = (start w).args in
-    let h : word_count a.width ≤ a.room.arena - a.next = omega (arith, w.word_count.ensures, c.if2.false) in
-    simp (lt-leb _ _ (told w).before.before.if1.false, (told w).enum_told.given.1, le-ltb _ _ h)
+    let a = (start c.before).args in
+    let h : word_count a.width ≤ a.room.arena - a.next = omega (arith, c.word_count.ensures, c.if-room-next.false) in
+    simp (lt-leb _ _ (told c.before).before.before.if1.false, (told c.before).enum_told.given.1, le-ltb _ _ h)
 
-pub plan-input-spec : {M : Type 1} → statement M
-plan-input-spec =
+pub plan_input_spec : {M : Type 1} → statement M
+plan_input_spec =
     tie.close
     (tie.spec
     returns

@@ -15,61 +15,58 @@ complement m h =
     let e : 2 ^ 64 - 1 - m ≡ 2 ^ 64 - suc m = omega arith in
     ap (to_z w64) e ∙ to_z-neg w64 m h
 
-module _ (c : tie.After-shared-slice-known4) where
+module _ (c : tie.After-shared_slice_known-4-1) where
   abbrev start : tie.Start
   start = c.before.before.before.before
 
   low : LowWords start.args.h start.args.value.now start.args.unknown.now
   low = record {
-    value-plane = start.pre.0;
-    unknown-plane = start.pre.1;
-    value-fits = (c.before.before.before.shared-slice-known.given 0).fits;
-    unknown-fits = (c.before.before.shared-slice-known2.given 0).fits;
+    value-plane = start.requires.0;
+    unknown-plane = start.requires.1;
+    value-fits = (c.shared_slice_known-1.given 0).fits;
+    unknown-fits = (c.shared_slice_known-2-1.given 0).fits;
   }
 
 -- the ones below the width
-module _ (c : tie.After-ones) where
-  abbrev read : tie.After-shared-slice-known4
+module _ (c : tie.After-ones-all) where
+  abbrev read : tie.After-shared_slice_known-4-1
   read = c.before.before.before.before.before
 
   abbrev bits : ℕ
   bits = min 64 (start read).args.h.width
 
-  all-is : c.ones.result ≡ 2 ^ bits - 1
+  all-is : c.ones-all.result ≡ 2 ^ bits - 1
   all-is =
-      let e : c.before.kept.result ≡ bits = omega arith in
-      c.ones.ensures ∙ ap (λ (m : ℕ). 2 ^ m - 1) e
+      let e : c.kept.result ≡ bits = omega arith in
+      c.ones-all.ensures ∙ ap (λ (m : ℕ). 2 ^ m - 1) e
 
   number : twos_complement bits (known_ones (start read).args.value.now (start read).args.unknown.now) ≡ vector_integer (vector (start read).args.h (lent (start read).args.value.now (start read).args.unknown.now))
-  number = signed-integer (low read) c.before.before.before.before.if1.false (not-false (start read).args.h.is_signed c.before.before.if2.false)
+  number = signed-integer (low read) c.if-h.false (not-false (start read).args.h.is_signed c.if-not-h.false)
 
-returns : tie.Need-returns
-returns c = c.nearest-u64-to-f64.ensures ∙ ap (of_int binary64) (fill-integer (low c.before.before) c.before.if1.true)
+returns : tie.Need-returns-then-h
+returns c = c.nearest_u64_to_f64.ensures ∙ ap (of_int binary64) (fill-integer (low c.before.before) c.if-h.true)
 
-returns-2 : tie.Need-returns-2
+returns-2 : tie.Need-returns-then-not-h
 returns-2 c =
-    let s = c.before.before.before.before in
-    c.nearest-u64-to-f642.ensures ∙ ap (of_int binary64) (unsigned-integer (low s) c.before.before.before.if1.false (not-true _ c.before.if2.true))
+    c.nearest_u64_to_f64-then-not-h.ensures ∙ ap (of_int binary64) (unsigned-integer (low c.before.before.before.before) c.if-h.false (not-true _ c.if-not-h.true))
 
-returns-3 : tie.Need-returns-3
+returns-3 : tie.Need-returns-then-n-all
 returns-3 c =
-    let o = c.before.before in
-    c.nearest-u64-to-f643.ensures ∙ ap (of_int binary64) (not_negative (bits o) _ (rw (all-is o) at c.before.if3.true) ∙ number o)
+    c.nearest_u64_to_f64-then-n-all.ensures ∙ ap (of_int binary64) (not_negative (bits c.before.before) _ (rw (all-is c.before.before) at c.if-n-all.true) ∙ number c.before.before)
 
-sub-nearest-i64-to-f64 : tie.Need-overflow-sub-nearest-i64-to-f64
+sub-nearest-i64-to-f64 : tie.Need-overflow_sub-all
 sub-nearest-i64-to-f64 c = omega (arith, all-is c.before, ones_lt (low (read c.before)))
 
-returns-4 : tie.Need-returns-4
+returns-4 : tie.Need-returns
 returns-4 c =
-    let o = c.before.before in
     let n : ℕ = known_ones (start (read o)).args.value.now (start (read o)).args.unknown.now in
-    let k : o.ones.result - n < 2 ^ 63 = omega arith in
-    c.nearest-i64-to-f64.ensures
+    let k : c.ones-all.result - n < 2 ^ 63 = omega arith in
+    c.nearest_i64_to_f64.ensures
     ∙ ap (of_int binary64)
-    (complement (o.ones.result - n) k ∙ ap (λ (x : ℕ). negsuc (x - n)) (all-is o) ∙ negative (bits o) n (rw (all-is o) at c.before.if3.false) (ones_lt (low (read o))) ∙ number o)
+    (complement (c.ones-all.result - n) k ∙ ap (λ (x : ℕ). negsuc (x - n)) (all-is c.before.before) ∙ negative (bits c.before.before) n (rw (all-is c.before.before) at c.if-n-all.false) (ones_lt (low (read o))) ∙ number c.before.before)
 
-pub vector-real-spec : {M : Type 1} → statement M
-vector-real-spec =
+pub vector_real_spec : {M : Type 1} → statement M
+vector_real_spec =
     tie.close
     (tie.spec
     (λ c. search rules)

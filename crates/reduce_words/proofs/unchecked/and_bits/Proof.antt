@@ -22,131 +22,125 @@ use Rattle.reduce_words.proofs.Scan.{left, found, more, end}
 use Rattle.reduce_words.proofs.unchecked.and_bits.Statement.{statement}
 use Rattle.reduce_words.proofs.unchecked.and_bits.Tie as tie
 
-abbrev invariant-loop : tie.invariant-loop
+abbrev invariant-loop : tie.invariant-loop-k
 invariant-loop width value unknown last seen₀ k₀ seen k =
     (k ≤ last) × (contains Zero (from_planes width value unknown) ≡ left (known_zeros width (lent value unknown)) unknown seen k)
 
-abbrev decreases-loop : tie.decreases-loop
+abbrev decreases-loop : tie.decreases-loop-k
 decreases-loop width value unknown last seen₀ k₀ seen k = last - k
 
 -- what is told, as a bit
 answer : (w : ℕ) (v u : List ℕ) (t : Truth) → contains Zero (from_planes w v u) ≡ t → not_bit (truth_bit t) ≡ reduce_and (from_planes w v u)
 answer w v u t e = ap (λ (t : Truth). not_bit (truth_bit t)) (sym e) ∙ contains-and (from_planes w v u)
 
-loop-holds : tie.Need-loop-init invariant-loop decreases-loop
+loop-holds : tie.Need-loop-k-init invariant-loop decreases-loop
 loop-holds c =
-    let a = c.before.before.args in (
+    let a = c.args in (
       omega arith,
       sym (zeros-by-words a.width a.value.now a.unknown.now (record {
-        value-plane = c.before.before.requires.0;
-        unknown-plane = c.before.before.requires.1;
-        words = record { value-words = λ k. (c.before.shared-slice-known.given k).fits; unknown-words = λ k. (c.shared-slice-known2.given k).fits };
+        value-plane = c.requires.0;
+        unknown-plane = c.requires.1;
+        words = record { value-words = λ k. (c.shared_slice_known-1.given k).fits; unknown-words = λ k. (c.shared_slice_known-2-1.given k).fits };
       })),
     )
 
 -- what is scanned
-module _ (l : tie.At-loop invariant-loop decreases-loop) where
+module _ (l : tie.At-loop-k invariant-loop decreases-loop) where
   abbrev values : List ℕ
-  values = l.before.before.before.args.value.now
+  values = l.args.value.now
 
   abbrev unknowns : List ℕ
-  unknowns = l.before.before.before.args.unknown.now
+  unknowns = l.args.unknown.now
 
   abbrev zeros : List ℕ
-  zeros = known_zeros l.before.before.before.args.width (lent values unknowns)
+  zeros = known_zeros l.args.width (lent values unknowns)
 
   long : (k : ℕ) → k < length values → k < length zeros
   long k h = rw length-tabulate h
 
   long-unknown : (k : ℕ) → k < length values → k < length unknowns
-  long-unknown k h = omega (arith, l.before.before.before.pre.0.count, l.before.before.before.pre.1.count)
+  long-unknown k h = omega (arith, l.requires.0.count, l.requires.1.count)
 
 -- a word below the last one
-module _ (c : tie.After-shared-slice-known4 invariant-loop decreases-loop) where
-  abbrev turn : tie.At-loop invariant-loop decreases-loop
+module _ (c : tie.After-shared_slice_known-in-loop-k-2-1 invariant-loop decreases-loop) where
+  abbrev turn : tie.At-loop-k invariant-loop decreases-loop
   turn = c.before.before.before
 
-  inside : turn.loop.k < length (values turn)
+  inside : turn.loop-k.k < length (values turn)
   inside = omega arith
 
-  marks : get_or (zeros turn) turn.loop.k 0 ≡ complement (bit_or (get_or (values turn) turn.loop.k 0) (get_or (unknowns turn) turn.loop.k 0))
+  marks : get_or (zeros turn) turn.loop-k.k 0 ≡ complement (bit_or (get_or (values turn) turn.loop-k.k 0) (get_or (unknowns turn) turn.loop-k.k 0))
   marks =
       let s = turn.before.before.before in
-      zeros-whole s.args.width (values turn) (unknowns turn) turn.loop.k inside (omega (arith, s.pre.0.count))
+      zeros-whole s.args.width (values turn) (unknowns turn) turn.loop-k.k inside (omega (arith, s.pre.0.count))
 
 -- the last word
-module _ (c : tie.After-shared-slice-known6 invariant-loop decreases-loop) where
-  abbrev over : tie.At-loop invariant-loop decreases-loop
+module _ (c : tie.After-shared_slice_known-4-1 invariant-loop decreases-loop) where
+  abbrev over : tie.At-loop-k invariant-loop decreases-loop
   over = c.before.before.before.before
 
   abbrev last : ℕ
   last = length (values over) - 1
 
   some_word : last < length (values over)
-  some_word = omega (arith, over.before.before.before.pre.0.count)
+  some_word = omega (arith, over.requires.0.count)
 
-  left-to-tell : let a = over.before.before.before.args in
-      contains Zero (from_planes a.width a.value.now a.unknown.now) ≡ left (zeros over) (unknowns over) over.loop.seen last
+  left-to-tell : let a = over.args in
+      contains Zero (from_planes a.width a.value.now a.unknown.now) ≡ left (zeros over) (unknowns over) over.loop-k.seen last
   left-to-tell =
-      let e : over.loop.k ≡ last = omega arith in
-      over.loop.inv.1 ∙ ap (left (zeros over) (unknowns over) over.loop.seen) e
+      let e : over.loop-k.k ≡ last = omega arith in
+      over.loop-k.invariant.1 ∙ ap (left (zeros over) (unknowns over) over.loop-k.seen) e
 
-  top-marks : get_or (zeros over) last 0 ≡ bit_and (complement (bit_or (get_or (values over) last 0) (get_or (unknowns over) last 0))) c.before.ones.result
+  top-marks : get_or (zeros over) last 0 ≡ bit_and (complement (bit_or (get_or (values over) last 0) (get_or (unknowns over) last 0))) c.ones-m.result
   top-marks =
       let s = over.before.before.before in
       let e : s.args.width - last * 64 ≡ min 64 (s.args.width - last * 64) = omega (arith, s.pre.0.count) in
-      zeros-cut s.args.width (values over) (unknowns over) last some_word c.before.ones.result (c.before.ones.ensures ∙ ap (λ (n : ℕ). 2 ^ n - 1) e)
+      zeros-cut s.args.width (values over) (unknowns over) last some_word c.ones-m.result (c.ones-m.ensures ∙ ap (λ (n : ℕ). 2 ^ n - 1) e)
 
 -- all words are scanned
-finished : (c : tie.Else2 invariant-loop decreases-loop) (z : Bool) → let l = over c.before in let s = l.before.before.before in
-    not_zero (bit_or l.loop.seen (get_or (unknowns l) (length (values l) - 1) 0)) ≡ z
-    → not_bit (truth_bit (told false z)) ≡ reduce_and (from_planes s.args.width s.args.value.now s.args.unknown.now)
+finished : (c : tie.Else-value-last-ne0 invariant-loop decreases-loop) (z : Bool) → let l = over c.before in not_zero (bit_or l.loop-k.seen (get_or (unknowns l) (length (values l) - 1) 0)) ≡ z
+    → not_bit (truth_bit (told false z)) ≡ reduce_and (from_planes l.args.width l.args.value.now l.args.unknown.now)
 finished c z h =
-    let t = c.before in
-    let l = over t in
-    let s = l.before.before.before in
-    answer s.args.width (values l) (unknowns l) (told false z)
-    (left-to-tell t
-    ∙ more (zeros l) (unknowns l) l.loop.seen (last t) (long l (last t) (some_word t)) (long-unknown l (last t) (some_word t)) (top-marks t ∙ c.if2.false)
-    ∙ end (zeros l) (unknowns l) (bit_or l.loop.seen (get_or (unknowns l) (last t) 0)) (last t + 1)
-    (rw length-tabulate (omega arith)) (omega (arith, s.pre.0.count, s.pre.1.count)) z h)
+    let l = over c.before in
+    answer l.args.width (values l) (unknowns l) (told false z)
+    (left-to-tell c.before
+    ∙ more (zeros l) (unknowns l) l.loop-k.seen (last c.before) (long l (last c.before) (some_word c.before)) (long-unknown l (last c.before) (some_word c.before)) (top-marks c.before ∙ c.if-value-last-ne0.false)
+    ∙ end (zeros l) (unknowns l) (bit_or l.loop-k.seen (get_or (unknowns l) (last c.before) 0)) (last c.before + 1)
+    (rw length-tabulate (omega arith)) (omega (arith, l.requires.0.count, l.requires.1.count)) z h)
 
-returns : tie.Need-returns invariant-loop decreases-loop
+returns : tie.Need-returns-then-value-k-ne0 invariant-loop decreases-loop
 returns c =
-    let t = c.before in
-    let l = turn t in
-    answer l.before.before.before.args.width (values l) (unknowns l) True
-    (l.loop.inv.1
-    ∙ found (zeros l) (unknowns l) l.loop.seen l.loop.k (long l l.loop.k (inside t)) (long-unknown l l.loop.k (inside t))
-    (λ z. c.if1.true (sym (marks t) ∙ z)))
+    let l = turn c.before in
+    answer l.args.width (values l) (unknowns l) True
+    (l.loop-k.invariant.1
+    ∙ found (zeros l) (unknowns l) l.loop-k.seen l.loop-k.k (long l l.loop-k.k (inside c.before)) (long-unknown l l.loop-k.k (inside c.before))
+    (λ z. c.if-value-k-ne0.true (sym (marks c.before) ∙ z)))
 
-loop-again : tie.Need-loop-preserved invariant-loop decreases-loop
+loop-again : tie.Need-loop-k-preserved invariant-loop decreases-loop
 loop-again c =
-    let t = c.before in
-    let l = turn t in (
+    let l = turn c.before in (
       omega arith,
-      l.loop.inv.1
-          ∙ more (zeros l) (unknowns l) l.loop.seen l.loop.k (long l l.loop.k (inside t)) (long-unknown l l.loop.k (inside t))
-          (marks t ∙ c.if1.false),
+      l.loop-k.invariant.1
+          ∙ more (zeros l) (unknowns l) l.loop-k.seen l.loop-k.k (long l l.loop-k.k (inside c.before)) (long-unknown l l.loop-k.k (inside c.before))
+          (marks c.before ∙ c.if-value-k-ne0.false),
     )
 
-returns-2 : tie.Need-returns-2 invariant-loop decreases-loop
+returns-2 : tie.Need-returns-then-value-last-ne0 invariant-loop decreases-loop
 returns-2 c =
-    let t = c.before in
-    let l = over t in
-    answer l.before.before.before.args.width (values l) (unknowns l) True
-    (left-to-tell t
-    ∙ found (zeros l) (unknowns l) l.loop.seen (last t) (long l (last t) (some_word t)) (long-unknown l (last t) (some_word t))
-    (λ z. c.if2.true (sym (top-marks t) ∙ z)))
+    let l = over c.before in
+    answer l.args.width (values l) (unknowns l) True
+    (left-to-tell c.before
+    ∙ found (zeros l) (unknowns l) l.loop-k.seen (last c.before) (long l (last c.before) (some_word c.before)) (long-unknown l (last c.before) (some_word c.before))
+    (λ z. c.if-value-last-ne0.true (sym (top-marks c.before) ∙ z)))
 
-returns-3 : tie.Need-returns-3 invariant-loop decreases-loop
-returns-3 c = finished c.before true (ap not (ne_eqb _ _ c.if3.true))
+returns-3 : tie.Need-returns-then-seen-u-ne0 invariant-loop decreases-loop
+returns-3 c = finished c.before true (ap not (ne_eqb _ _ c.if-seen-u-ne0.true))
 
-returns-4 : tie.Need-returns-4 invariant-loop decreases-loop
-returns-4 c = finished c.before false (ap not (eq-eqb _ _ c.if3.false))
+returns-4 : tie.Need-returns invariant-loop decreases-loop
+returns-4 c = finished c.before false (ap not (eq-eqb _ _ c.if-seen-u-ne0.false))
 
-pub and-bits-spec : {M : Type 1} → statement M
-and-bits-spec =
+pub and_bits_spec : {M : Type 1} → statement M
+and_bits_spec =
     tie.close
     (tie.spec
     invariant-loop

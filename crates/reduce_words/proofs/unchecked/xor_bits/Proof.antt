@@ -12,67 +12,61 @@ use Rattle.reduce_words.proofs.Parity.{Summed, begin, another, unknown-found, pa
 use Rattle.reduce_words.proofs.unchecked.xor_bits.Statement.{statement}
 use Rattle.reduce_words.proofs.unchecked.xor_bits.Tie as tie
 
-abbrev invariant-loop : tie.invariant-loop
+abbrev invariant-loop : tie.invariant-loop-k
 invariant-loop width value unknown sum₀ k₀ sum k = (k ≤ length value) × (sum < 2 ^ 64) × Summed width value unknown sum k
 
-abbrev decreases-loop : tie.decreases-loop
+abbrev decreases-loop : tie.decreases-loop-k
 decreases-loop width value unknown sum₀ k₀ sum k = length value - k
 
-planes : (c : tie.After-shared-slice-known2 invariant-loop decreases-loop) → let a = c.before.before.before.before.args in WordPlanes a.width a.value.now a.unknown.now
+planes : (c : tie.After-shared_slice_known-in-loop-k-1 invariant-loop decreases-loop) → let a = c.args in WordPlanes a.width a.value.now a.unknown.now
 planes c = record {
-  value-plane = c.before.before.before.before.requires.0;
-  unknown-plane = c.before.before.before.before.requires.1;
+  value-plane = c.requires.0;
+  unknown-plane = c.requires.1;
   words = record {
-    value-words = λ k. (c.before.shared-slice-known.given k).fits;
-    unknown-words = λ k. (c.shared-slice-known2.given k).fits;
+    value-words = λ k. (c.shared_slice_known-1.given k).fits;
+    unknown-words = λ k. (c.shared_slice_known-in-loop-k-1.given k).fits;
   };
 }
 
-loop-holds : tie.Need-loop-init invariant-loop decreases-loop
+loop-holds : tie.Need-loop-k-init invariant-loop decreases-loop
 loop-holds c = (omega arith, pow_pos 64, begin _ _ _)
 
-mul-v : tie.Need-overflow-mul-v invariant-loop decreases-loop
+mul-v : tie.Need-offset_bounds-value-k invariant-loop decreases-loop
 mul-v c = search rules
 
-shared-slice-read-v : tie.Need-shared-slice-read-v invariant-loop decreases-loop
+shared-slice-read-v : tie.Need-bounds-value-k invariant-loop decreases-loop
 shared-slice-read-v c = search rules
 
-mul-if1 : tie.Need-overflow-mul-if1 invariant-loop decreases-loop
+mul-if1 : tie.Need-offset_bounds-unknown-k invariant-loop decreases-loop
 mul-if1 c = search rules
 
-shared-slice-read-if1 : tie.Need-shared-slice-read-if1 invariant-loop decreases-loop
+shared-slice-read-if1 : tie.Need-bounds-unknown-k invariant-loop decreases-loop
 shared-slice-read-if1 c = search rules
 
-returns : tie.Need-returns invariant-loop decreases-loop
+returns : tie.Need-returns-then-unknown-k-ne0 invariant-loop decreases-loop
 returns c =
-    let k = c.before in
-    let l = k.before.before.before in
-    unknown-found _ _ _ (planes k) _ _ l.loop.invariant.2 c.if1.true
+    unknown-found _ _ _ (planes c.before) _ _ c.loop-k.invariant.2 c.if-unknown-k-ne0.true
 
-add-k : tie.Need-overflow-add-k invariant-loop decreases-loop
+add-k : tie.Need-overflow_add-k invariant-loop decreases-loop
 add-k c = search rules
 
-loop-less : tie.Need-loop-smaller invariant-loop decreases-loop
+loop-less : tie.Need-loop-k-smaller invariant-loop decreases-loop
 loop-less c = search rules
 
-loop-again : tie.Need-loop-preserved invariant-loop decreases-loop
+loop-again : tie.Need-loop-k-preserved invariant-loop decreases-loop
 loop-again c =
-    let k = c.before in
-    let l = k.before.before.before in
-    (omega arith, xor_lt 64 _ _ l.loop.invariant.1 ((planes k).words.value-words _), another _ _ _ (planes k) _ _ l.loop.invariant.2 l.loop.invariant.1 c.if1.false)
+    (omega arith, xor_lt 64 _ _ c.loop-k.invariant.1 ((planes c.before).words.value-words _), another _ _ _ (planes c.before) _ _ c.loop-k.invariant.2 c.loop-k.invariant.1 c.if-unknown-k-ne0.false)
 
-returns-2 : tie.Need-returns-2 invariant-loop decreases-loop
+returns-2 : tie.Need-returns-then-sum-eq0 invariant-loop decreases-loop
 returns-2 c =
-    let l = c.before.before in
-    parity _ _ _ _ _ l.loop.invariant.2 (omega arith) true (eq-eqb _ _ c.if2.true)
+    parity _ _ _ _ _ c.loop-k.invariant.2 (omega arith) true (eq-eqb _ _ c.if-sum-eq0.true)
 
-returns-3 : tie.Need-returns-3 invariant-loop decreases-loop
+returns-3 : tie.Need-returns-else-sum-eq0 invariant-loop decreases-loop
 returns-3 c =
-    let l = c.before.before in
-    parity _ _ _ _ _ l.loop.invariant.2 (omega arith) false (ne_eqb _ _ c.if2.false)
+    parity _ _ _ _ _ c.loop-k.invariant.2 (omega arith) false (ne_eqb _ _ c.if-sum-eq0.false)
 
-pub xor-bits-spec : {M : Type 1} → statement M
-xor-bits-spec =
+pub xor_bits_spec : {M : Type 1} → statement M
+xor_bits_spec =
     tie.close
     (tie.spec
     invariant-loop

@@ -19,47 +19,47 @@ use borrow.Author.Rules.{rules}
 use Rattle.store.proofs.Store.add_step.Statement.{statement}
 use Rattle.store.proofs.Store.add_step.Tie as tie
 
-abbrev st : tie.After-check-cells → tie.Start
+abbrev st : tie.After-check_cells → tie.Start
 st k = k.before.before.before.before.before.before.before.before
 
-abbrev scratch : tie.After-check-cells → Planes
+abbrev scratch : tie.After-check_cells → Planes
 scratch k = lent (st k).args.sv.now (st k).args.su.now
 
-abbrev all : tie.After-check-cells → State
+abbrev all : tie.After-check_cells → State
 all k = state (st k).args.self (lent (st k).args.av.now (st k).args.au.now)
 
-places : (k : tie.After-check-cells) → length (st k).args.self.cells ≡ 320
+places : (k : tie.After-check_cells) → length (st k).args.self.cells ≡ 320
 places k = simp length-map at (st k).well-formed.0.1.1.0.1.0.1
 
 -- not 14
-module _ (t : tie.After-known-told2) where
-  abbrev k : tie.After-check-cells
+module _ (t : tie.In-At) where
+  abbrev k : tie.After-check_cells
   k = t.before.before.before
 
-  found : (agrees (all k) ≡ true) × (next_word (st k).args.self ≡ t.before.next.given.0.0)
-  found = told-accepted (all k) t.before.next.given.0.0 (sym k.check-cells.ensures ∙ ap place_answer t.before.next.given.1)
+  found : (agrees (all k) ≡ true) × (next_word (st k).args.self ≡ t.in-At.next)
+  found = told-accepted (all k) t.in-At.next (sym k.check_cells.ensures ∙ ap place_answer t.in-At.is)
 
 -- the four arrays are those of the store
-module _ (f : tie.After-fields-of) where
-  abbrev b : tie.After-check-cells
-  b = k f.before
+module _ (f : tie.After-fields_of-f) where
+  abbrev b : tie.After-check_cells
+  b = k f.before.before.before.before
 
-  same : (st b).args.self ≡ store_of (st b).args.self.count f.fields-of.result
+  same : (st b).args.self ≡ store_of (st b).args.self.count f.fields_of-f.result
   same =
       let s = (st b).args.self in
-      sym (store-again s (places b)) ∙ ap (store_of s.count) (sym f.fields-of.ensures)
+      sym (store-again s (places b)) ∙ ap (store_of s.count) (sym f.fields_of-f.ensures)
 
 -- what was taken
-module _ (i : tie.After-take-step) where
-  abbrev f : tie.After-fields-of
-  f = i.before.before.before.before.before.before.before.before.before.before
+module _ (i : tie.After-take_step) where
+  abbrev f : tie.After-fields_of-f
+  f = i.before.before.before.before.before.before.before.before.before
 
   abbrev before : Memory
   before = memory (all (b f)) (scratch (b f))
 
   abbrev left : Store → Memory
   left s =
-      let r = i.take_step.last.1.1.1.1.1.1.1 in
+      let r = i.take_step.new.1.1.1.1.1.1.1 in
       memory (state s (lent r.0 r.1.0)) (lent r.1.1.0 r.1.1.1.0)
 
   told : (x : StepAnswer) → i.take_step.result ≡ x
@@ -71,45 +71,40 @@ module _ (i : tie.After-take-step) where
       ∙ ap (λ (z : Store). add_step (memory (state z (all (b f)).arenas) (scratch (b f))) (st (b f)).args.step) (sym (same f))
 
 -- where it is refused, and where it has added a cell
-abbrev refused-at : tie.After-known-told3 → tie.After-take-step
+abbrev refused-at : tie.In-Refused-take_step → tie.After-take_step
 refused-at c = c.before.before.before.before.before.before.before.before.before.before.before
 
-abbrev added-at : tie.After-with-cell → tie.After-take-step
+abbrev added-at : tie.After-with_cell → tie.After-take_step
 added-at c = c.before.before.before.before.before.before.before.before.before.before.before.before
 
-take-step-requires : tie.Need-take-step-requires
+take-step-requires : tie.Need-take_step-requires
 take-step-requires c κs =
-    let f = c.before.before.before.before.before.before.before.before.before in
-    let t = f.before in
-    record { agreed = subst (λ (s : Store). agrees (state s (all (k t)).arenas) ≡ true) (same f) (found t).0; words = sym (found t).1 ∙ ap next_word (same f) }
+    record { agreed = subst (λ (s : Store). agrees (state s (all (k t)).arenas) ≡ true) (same c.before.before.before.before.before.before.before.before) (found c.before.before.before.before.before.before.before.before.before).0; words = sym (found c.before.before.before.before.before.before.before.before.before).1 ∙ ap next_word (same c.before.before.before.before.before.before.before.before) }
 
-with-cell-requires : tie.Need-with-cell-requires
+with-cell-requires : tie.Need-with_cell-requires
 with-cell-requires c κs =
-    let i = c.before.before.before.before.before.before.before.before.before.before.before in
-    let a = c.before.c.given in
-    step-few (before i) _ (st (b (f i))).args.step _ (places (b (f i))) (told i (Added a.0.0) a.1)
+    let a = c.known_told-in-Added-1.given in
+    step-few (before c.before.before.before.before.before.before.before.before.before.before.before) _ (st (b (f i))).args.step _ (places (b (f i))) (told c.before.before.before.before.before.before.before.before.before.before.before (Added a.0.0) a.1)
 
-returns : tie.Need-returns
+returns : tie.Need-returns-in-Refused
 returns c =
-    let b = c.before.before.before in
-    let r = refusal_number c.before.r.given.0.0 in
-    let e = told-refused (all b) r (sym b.check-cells.ensures ∙ ap place_answer c.before.r.given.1) in
-    (store-refused (all b) r e).1 (scratch b) (st b).args.step
+    let r = refusal_number c.in-Refused.r in
+    let e = told-refused (all c.before.before.before) r (sym c.check_cells.ensures ∙ ap place_answer c.in-Refused.is) in
+    (store-refused (all c.before.before.before) r e).1 (scratch c.before.before.before) (st c.before.before.before).args.step
 
-returns-2 : tie.Need-returns-2
+returns-2 : tie.Need-returns-in-Refused-take_step
 returns-2 c =
-    let r = c.before.r2.given in
+    let r = c.known_told-in-Refused-take_step-1.given in
     told (refused-at c) (Refused r.0.0) r.1
 
-returns-3 : tie.Need-returns-3
+returns-3 : tie.Need-returns-in-Added
 returns-3 c =
-    let a = c.before.before in
     let i = added-at c in
     ap (λ (s : Store). outcome (given (st (b (f i))).args.self.count) (left i s)) c.with_cell.ensures
-    ∙ told i (Added a.c.given.0.0) a.c.given.1
+    ∙ told i (Added c.in-Added.c) c.in-Added.is
 
-pub add-step-spec : {M : Type 1} → statement M
-add-step-spec =
+pub add_step_spec : {M : Type 1} → statement M
+add_step_spec =
     tie.close
     (tie.spec
     (λ c κs. search rules)

@@ -21,7 +21,7 @@ use Rattle.store.proofs.unchecked.take_input.Statement.{statement}
 use Rattle.store.proofs.unchecked.take_input.Tie as tie
 
 -- once the input is planned
-module _ (k : tie.After-plan-input) where
+module _ (k : tie.After-plan_input) where
   abbrev st : tie.Start
   st = k.before.before.before.before.before.before
 
@@ -38,19 +38,19 @@ module _ (k : tie.After-plan-input) where
   abbrev by : Answer Unit → Outcome ℕ Planes
   by x = or_refuse x arenas (outcome (given st.args.next) (put_planes st.args.next (planes_of (vector_of st.args.h.width input)) arenas))
 
-  told : place_answer k.plan-input.result ≡ after check (given st.args.next)
+  told : place_answer k.plan_input.result ≡ after check (given st.args.next)
   told =
       let g = st.args in
-      k.plan-input.ensures
-      ∙ ap (λ (x : Answer Unit). after (check_input_behind (room_of arenas no_scratch) g.count g.next x g.h.width) (given g.next)) k.before.check-vector.ensures
+      k.plan_input.ensures
+      ∙ ap (λ (x : Answer Unit). after (check_input_behind (room_of arenas no_scratch) g.count g.next x g.h.width) (given g.next)) k.check_vector-checked.ensures
 
 -- nothing was refused
-module _ (t : tie.After-known-told2) where
-  abbrev p : tie.After-plan-input
+module _ (t : tie.In-At) where
+  abbrev p : tie.After-plan_input
   p = t.before.before.before
 
-  found : (check p ≡ given tt) × ((st p).args.next ≡ t.before.at.given.0.0)
-  found = answer-given (check p) (st p).args.next t.before.at.given.0.0 (sym (told p) ∙ ap place_answer t.before.at.given.1)
+  found : (check p ≡ given tt) × ((st p).args.next ≡ t.in-At.at)
+  found = answer-given (check p) (st p).args.next t.in-At.at (sym (told p) ∙ ap place_answer t.in-At.is)
 
   accepted : (check_vector (st p).args.h (input p) ≡ given tt) × (word_count (st p).args.h.width ≤ length (arenas p).value - (st p).args.next)
   accepted =
@@ -63,51 +63,44 @@ module _ (t : tie.After-known-told2) where
   sound : Sound (st p).args.h (input p)
   sound = vector-accepted (st p).args.h (input p) accepted.0
 
-copy-behind-requires : tie.Need-copy-behind-requires
+copy-behind-requires : tie.Need-copy_behind-requires
 copy-behind-requires c κs =
-    let w = c.before.before in
-    let t = w.before in
-    let s = (sound t).planes in
-    let n = w.word_count.ensures in
+    let s = (sound c.before.before.before).planes in
+    let n = c.word_count.ensures in
     let g = (st (p t)).pre in (
       (omega (arith, n, s.value-plane.count), omega (arith, n, s.unknown-plane.count)),
       (
-        omega (arith, n, (accepted t).1, (found t).1, g.0),
-        omega (arith, n, (accepted t).1, (found t).1, g.0, g.1),
+        omega (arith, n, (accepted c.before.before.before).1, (found c.before.before.before).1, g.0),
+        omega (arith, n, (accepted c.before.before.before).1, (found c.before.before.before).1, g.0, g.1),
       ),
     )
 
-returns : tie.Need-returns
+returns : tie.Need-returns-in-Refused
 returns c =
-    let k = c.before.before.before in
-    sym (ap (by k) (answer-refused (check k) (st k).args.next (refusal_number c.before.r.given.0.0) (sym (told k) ∙ ap place_answer c.before.r.given.1)))
+    sym (ap (by c.before.before.before) (answer-refused (check c.before.before.before) (st c.before.before.before).args.next (refusal_number c.in-Refused.r) (sym (told c.before.before.before) ∙ ap place_answer c.in-Refused.is)))
 
-returns-2 : tie.Need-returns-2
+returns-2 : tie.Need-returns-in-At
 returns-2 c =
-    let b = c.before.before.before.before in
-    let w = b.before.before.before in
-    let t = w.before in
-    let k = p t in
+    let k = p c.before.before.before.before.before.before.before.before in
     let s = st k in
     let g = s.args in
-    let q = (sound t).planes in
-    let n : w.word_count.result ≡ word_count g.h.width = w.word_count.ensures in
-    let value : take w.word_count.result (input k).value ≡ (input k).value = take_all w.word_count.result (input k).value (omega (arith, n, q.value-plane.count)) in
-    let unknown : take w.word_count.result (input k).unknown ≡ (input k).unknown = take_all w.word_count.result (input k).unknown (omega (arith, n, q.unknown-plane.count)) in
-    let known = k.before.before.before in
+    let q = (sound c.before.before.before.before.before.before.before.before).planes in
+    let n : c.word_count.result ≡ word_count g.h.width = c.word_count.ensures in
+    let value : take c.word_count.result (input k).value ≡ (input k).value = take_all c.word_count.result (input k).value (omega (arith, n, q.value-plane.count)) in
+    let unknown : take c.word_count.result (input k).unknown ≡ (input k).unknown = take_all c.word_count.result (input k).unknown (omega (arith, n, q.unknown-plane.count)) in
     let again =
     planes-again g.h.width (input k).value (input k).unknown q.value-plane q.unknown-plane
-    (λ i. (known.before.before.shared-slice-known.given i).fits) (λ i. (known.before.shared-slice-known2.given i).fits) in
+    (λ i. (k.shared_slice_known-1.given i).fits) (λ i. (k.shared_slice_known-2-1.given i).fits) in
     let e =
-    b.copy-behind.ensures
-    ∙ ap₂ (λ (v u : List ℕ). put_planes t.before.at.given.0.0 (lent v u) (arenas k)) value unknown
-    ∙ ap (λ (x : Planes). put_planes t.before.at.given.0.0 x (arenas k)) again in
-    ap (outcome (given t.before.at.given.0.0)) e
-    ∙ ap (λ (i : ℕ). outcome (given i) (put_planes i (planes_of (vector_of g.h.width (input k))) (arenas k))) (sym (found t).1)
-    ∙ sym (ap (by k) (found t).0)
+    c.copy_behind.ensures
+    ∙ ap₂ (λ (v u : List ℕ). put_planes c.in-At.at (lent v u) (arenas k)) value unknown
+    ∙ ap (λ (x : Planes). put_planes c.in-At.at x (arenas k)) again in
+    ap (outcome (given c.in-At.at)) e
+    ∙ ap (λ (i : ℕ). outcome (given i) (put_planes i (planes_of (vector_of g.h.width (input k))) (arenas k))) (sym (found c.before.before.before.before.before.before.before.before).1)
+    ∙ sym (ap (by k) (found c.before.before.before.before.before.before.before.before).0)
 
-pub take-input-spec : {M : Type 1} → statement M
-take-input-spec =
+pub take_input_spec : {M : Type 1} → statement M
+take_input_spec =
     tie.close
     (tie.spec
     (λ c κs. search rules)

@@ -44,7 +44,7 @@ module _ (st : tie.Start) where
   read = tabulate n (header_of table.widths table.signs table.fills)
 
   few : n ≤ 320
-  few = (state-agrees (state (store_of n table) m.arenas) st.pre.agreed).few
+  few = (state-agrees (state (store_of n table) m.arenas) st.requires.agreed).few
 
   same : read ≡ hs
   same = sym (headers-places n table few)
@@ -53,65 +53,60 @@ module _ (st : tie.Start) where
   check = check_step (room_of m.arenas m.scratch) hs st.args.step
 
 -- once the step is planned
-module _ (k : tie.After-plan-step) where
+module _ (k : tie.After-plan_step) where
   abbrev s : tie.Start
   s = k.before.before.before.before.before.before
 
-  room : record { arena = length (m s).arenas.value; scratch = k.before.least.result } ≡ room_of (m s).arenas (m s).scratch
-  room = λ i. record { arena = length (m s).arenas.value; scratch = k.before.least.ensures i }
+  room : record { arena = length (m s).arenas.value; scratch = k.least.result } ≡ room_of (m s).arenas (m s).scratch
+  room = λ i. record { arena = length (m s).arenas.value; scratch = k.least.ensures i }
 
-  told : plan_answer k.plan-step.result ≡ after (check s) (given (planned (hs s) s.args.step))
+  told : plan_answer k.plan_step.result ≡ after (check s) (given (planned (hs s) s.args.step))
   told =
-      k.plan-step.ensures
+      k.plan_step.ensures
       ∙ (λ i. after (check_step (room i) (same s i) s.args.step) (given (planned (same s i) s.args.step)))
 
 -- nothing was refused
-module _ (t : tie.After-known-told2) where
+module _ (t : tie.In-Planned) where
   abbrev from : tie.Start
-  from = s t.before.before.before
+  from = s t.before.before.before.before.before.before.before.before.before
 
   abbrev p : PlannedStep
-  p = t.before.p.given.0.0
+  p = t.in-Planned.p
 
   found : (check from ≡ given tt) × (planned (hs from) from.args.step ≡ p)
   found =
       answer-given (check from) (planned (hs from) from.args.step) p
-      (sym (told t.before.before.before) ∙ ap plan_answer t.before.p.given.1)
+      (sym (told t.before.before.before) ∙ ap plan_answer t.in-Planned.is)
 
-plan-step-requires : tie.Need-plan-step-requires
+plan-step-requires : tie.Need-plan_step-requires
 plan-step-requires c κs =
-    let st = c.before.before.before.before.before in
-    let g = st.requires in
-    let w = next-within (m st).arenas (places_of (table st)) (n st) g.agreed in (
-      few st,
-      g.words ∙ ap words_taken (sym (same st)),
+    let g = c.requires in
+    let w = next-within (m c.before.before.before.before.before).arenas (places_of (table c.before.before.before.before.before)) (n c.before.before.before.before.before) g.agreed in (
+      few c.before.before.before.before.before,
+      g.words ∙ ap words_taken (sym (same c.before.before.before.before.before)),
       omega (arith, w, g.words),
     )
 
 execute-requires : tie.Need-execute-requires
 execute-requires c κs =
-    let t = c.before.before.before.before in
-    let st = from t in
-    step-executable (n st) (table st) (m st) st.args.step st.pre.agreed (found t).0 (p t) (found t).1
+    let st = from c.before.before.before.before in
+    step-executable (n st) (table st) (m st) st.args.step st.requires.agreed (found c.before.before.before.before).0 (p c.before.before.before.before) (found c.before.before.before.before).1
 
-returns : tie.Need-returns
+returns : tie.Need-returns-in-Refused
 returns c =
-    let k = c.before.before.before in
-    let st = s k in
-    let r = refusal_number c.before.r.given.0.0 in
-    step-refused (n st) (table st) (m st) st.args.step st.pre.agreed r
-    (answer-refused (check st) (planned (hs st) st.args.step) r (sym (told k) ∙ ap plan_answer c.before.r.given.1))
+    let st = s c.before.before.before in
+    let r = refusal_number c.in-Refused.r in
+    step-refused (n st) (table st) (m st) st.args.step st.requires.agreed r
+    (answer-refused (check st) (planned (hs st) st.args.step) r (sym (told c.before.before.before) ∙ ap plan_answer c.in-Refused.is))
 
-returns-2 : tie.Need-returns-2
+returns-2 : tie.Need-returns-in-Planned
 returns-2 c =
-    let x = c.before.before.before.before.before.before.before.before.before in
-    let t = x.before.before.before.before.before in
-    let st = from t in
-    ap (λ (l : LentMemory). outcome (given (n st)) (memory (state (with_cell (record { start = (p t).start; header = (p t).header }) (store_of (n st) (table st))) l.arenas) l.scratch)) x.execute.ensures
-    ∙ step-taken (n st) (table st) (m st) st.args.step st.pre.agreed (found t).0 (p t) (found t).1
+    let st = from c.before.before.before.before.before.before.before.before.before.before.before.before.before.before in
+    ap (λ (l : LentMemory). outcome (given (n st)) (memory (state (with_cell (record { start = (p c.before.before.before.before.before.before.before.before.before.before.before.before.before.before).start; header = (p c.before.before.before.before.before.before.before.before.before.before.before.before.before.before).header }) (store_of (n st) (table st))) l.arenas) l.scratch)) c.execute.ensures
+    ∙ step-taken (n st) (table st) (m st) st.args.step st.requires.agreed (found c.before.before.before.before.before.before.before.before.before.before.before.before.before.before).0 (p c.before.before.before.before.before.before.before.before.before.before.before.before.before.before) (found c.before.before.before.before.before.before.before.before.before.before.before.before.before.before).1
 
-pub take-step-spec : {M : Type 1} → statement M
-take-step-spec =
+pub take_step_spec : {M : Type 1} → statement M
+take_step_spec =
     tie.close
     (tie.spec
     (λ c κs. search rules)

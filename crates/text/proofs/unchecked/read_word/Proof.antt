@@ -13,65 +13,60 @@ use borrow.Author.Rules.{rules}
 use Rattle.text.proofs.unchecked.read_word.Statement.{statement}
 use Rattle.text.proofs.unchecked.read_word.Tie as tie
 
-abbrev invariant-loop : tie.invariant-loop
+abbrev invariant-loop : tie.invariant-loop-j
 invariant-loop s from n value₀ unknown₀ j₀ value unknown j =
     (j ≤ n) × (value ≡ number_in value_digit s from j) × (unknown ≡ number_in unknown_digit s from j)
 
-abbrev decreases-loop : tie.decreases-loop
+abbrev decreases-loop : tie.decreases-loop-j
 decreases-loop s from n value₀ unknown₀ j₀ value unknown j = n - j
 
 -- the character that is read in a turn
-abbrev byte : tie.At-loop invariant-loop decreases-loop → ℕ
+abbrev byte : tie.At-loop-j invariant-loop decreases-loop → ℕ
 byte l = let a = l.before.args in get_or a.s.now (a.from + l.loop.j) 0
 
-loop-holds : tie.Need-loop-init invariant-loop decreases-loop
+loop-holds : tie.Need-loop-j-init invariant-loop decreases-loop
 loop-holds c = (omega arith, none value_digit _ _, none unknown_digit _ _)
 
 -- there is room for one more digit
-room : (d : LogicBit → ℕ) → ((b : LogicBit) → d b < 2) → (l : tie.At-loop invariant-loop decreases-loop) → l.loop.j ≤ 63
-    → number_in d l.before.args.s.now l.before.args.from l.loop.j < 2 ^ 63
+room : (d : LogicBit → ℕ) → ((b : LogicBit) → d b < 2) → (l : tie.At-loop-j invariant-loop decreases-loop) → l.loop-j.j ≤ 63
+    → number_in d l.args.s.now l.args.from l.loop-j.j < 2 ^ 63
 room d lt l h = small d lt l.before.args.s.now l.before.args.from l.loop.j h
 
-mul-value : tie.Need-overflow-mul-value invariant-loop decreases-loop
+mul-value : tie.Need-overflow_mul-value invariant-loop decreases-loop
 mul-value c = omega (arith, room value_digit value-digit-lt c.before.before (omega arith))
 
-add-value : tie.Need-overflow-add-value invariant-loop decreases-loop
+add-value : tie.Need-overflow_add-value invariant-loop decreases-loop
 add-value c =
-    let l = c.before.before in
-    omega (arith, room value_digit value-digit-lt l (omega arith), byte-value (byte l), value-digit-lt (of_byte (byte l)))
+    omega (arith, room value_digit value-digit-lt c (omega arith), byte-value (byte c.before.before), value-digit-lt (of_byte (byte c.before.before)))
 
-mul-unknown : tie.Need-overflow-mul-unknown invariant-loop decreases-loop
+mul-unknown : tie.Need-overflow_mul-unknown invariant-loop decreases-loop
 mul-unknown c = omega (arith, room unknown_digit unknown-digit-lt c.before.before (omega arith))
 
-add-unknown : tie.Need-overflow-add-unknown invariant-loop decreases-loop
+add-unknown : tie.Need-overflow_add-unknown invariant-loop decreases-loop
 add-unknown c =
-    let l = c.before.before in
-    omega (arith, room unknown_digit unknown-digit-lt l (omega arith), byte-unknown (byte l), unknown-digit-lt (of_byte (byte l)))
+    omega (arith, room unknown_digit unknown-digit-lt c (omega arith), byte-unknown (byte c.before.before), unknown-digit-lt (of_byte (byte c.before.before)))
 
-loop-again : tie.Need-loop-preserved invariant-loop decreases-loop
+loop-again : tie.Need-loop-j-preserved invariant-loop decreases-loop
 loop-again c =
-    let l = c.before.before in
-    let a = l.before.args in
+    let a = c.args in
     let s : List ℕ = a.s.now in
-    let j : ℕ = l.loop.j in (
+    let j : ℕ = c.loop-j.j in (
       omega arith,
-      ap₂ (λ (x y : ℕ). x * 2 + y) l.loop.invariant.1 (byte-value (byte l)) ∙ more value_digit s a.from j (omega arith),
-      ap₂ (λ (x y : ℕ). x * 2 + y) l.loop.invariant.2 (byte-unknown (byte l)) ∙ more unknown_digit s a.from j (omega arith),
+      ap₂ (λ (x y : ℕ). x * 2 + y) c.loop-j.invariant.1 (byte-value (byte c.before.before)) ∙ more value_digit s a.from j (omega arith),
+      ap₂ (λ (x y : ℕ). x * 2 + y) c.loop-j.invariant.2 (byte-unknown (byte c.before.before)) ∙ more unknown_digit s a.from j (omega arith),
     )
 
 returns : tie.Need-returns invariant-loop decreases-loop
 returns c =
-    let l = c.before in
-    let z = l.before in
-    let a = z.args in
+    let a = c.args in
     let s : List ℕ = a.s.now in
-    let e : l.loop.j ≡ a.n = omega arith in
-    let v = l.loop.invariant.1 ∙ ap (number_in value_digit s a.from) e ∙ word_in value_digit value-digit-lt s a.from refl a.n z.requires.0 in
-    let u = l.loop.invariant.2 ∙ ap (number_in unknown_digit s a.from) e ∙ word_in unknown_digit unknown-digit-lt s a.from refl a.n z.requires.0 in
+    let e : c.loop-j.j ≡ a.n = omega arith in
+    let v = c.loop-j.invariant.1 ∙ ap (number_in value_digit s a.from) e ∙ word_in value_digit value-digit-lt s a.from refl a.n c.requires.0 in
+    let u = c.loop-j.invariant.2 ∙ ap (number_in unknown_digit s a.from) e ∙ word_in unknown_digit unknown-digit-lt s a.from refl a.n c.requires.0 in
     λ i. record { value = v i; unknown = u i }
 
-pub read-word-spec : {M : Type 1} → statement M
-read-word-spec =
+pub read_word_spec : {M : Type 1} → statement M
+read_word_spec =
     tie.close
     (tie.spec
     invariant-loop

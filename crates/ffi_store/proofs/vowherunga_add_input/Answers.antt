@@ -1,0 +1,19 @@
+-- The store of the fields is handed over, and its answer settled.
+use Rattle.words.specs.Planes.{lent}
+use Rattle.store.specs.Store.{state, cell_answer}
+use Rattle.cells.specs.Places.{fields}
+use Rattle.store_abi.specs.Settled.{settled}
+use Rattle.ffi_store.proofs.Crossing.{input-crosses}
+use Rattle.ffi_store.proofs.vowherunga_add_input.Goals as goal
+
+pub returns : goal.returns
+returns c =
+    let g = c.args in
+    let r = c.add_input-r.result in
+    let d = c.add_input-r.new.1.1.1.1 in
+    let t = c.settle.new.1 in
+    input-crosses g.count (fields g.starts.now g.widths.now g.signs.now g.fills.now) (lent g.arena_value.now g.arena_unknown.now)
+    c.store_of-s.result c.store_of-s.ensures
+    g.h (lent g.value.now g.unknown.now) (cell_answer r.answer) (state r.store (lent d.0 d.1.0))
+    (settled c.settle.result (fields t.0 t.1.0 t.1.1.0 t.1.1.1.0))
+    c.add_input-r.ensures c.settle.ensures

@@ -1,0 +1,29 @@
+-- A code that is no op's is answered at once; else the store of the fields is handed over, and its answer settled.
+use mathlib.Core.Path.{sym, ◌∙◌}
+use Rattle.words.specs.Planes.{lent}
+use Rattle.ops.specs.Names.{op_of}
+use Rattle.store.specs.Store.{state, cell_answer}
+use Rattle.store.specs.Step.{memory}
+use Rattle.cells.specs.Places.{fields}
+use Rattle.store_abi.specs.Settled.{settled}
+use Rattle.ffi_store.proofs.Crossing.{no-op-crosses, step-crosses}
+use Rattle.ffi_store.proofs.vowherunga_add_step.Goals as goal
+
+pub returns-in-NoOp : goal.returns-in-NoOp
+returns-in-NoOp c =
+    let g = c.args in
+    no-op-crosses g.count (fields g.starts.now g.widths.now g.signs.now g.fills.now) (lent g.arena_value.now g.arena_unknown.now)
+    (lent g.scratch_value.now g.scratch_unknown.now) (op_of g.op) g.a g.b g.c (sym c.in-NoOp.is ∙ c.op_of.ensures)
+
+pub returns-in-Op : goal.returns-in-Op
+returns-in-Op c =
+    let g = c.args in
+    let r = c.add_step-r.result in
+    let d = c.add_step-r.new.1.1 in
+    let t = c.settle.new.1 in
+    step-crosses g.count (fields g.starts.now g.widths.now g.signs.now g.fills.now) (lent g.arena_value.now g.arena_unknown.now)
+    c.store_of-s.result c.store_of-s.ensures
+    (lent g.scratch_value.now g.scratch_unknown.now) c.in-Op.o (op_of g.op) g.a g.b g.c
+    (cell_answer r.answer) (memory (state r.store (lent d.0 d.1.0)) (lent d.1.1.0 d.1.1.1.0))
+    (settled c.settle.result (fields t.0 t.1.0 t.1.1.0 t.1.1.1.0))
+    (sym c.in-Op.is ∙ c.op_of.ensures) c.add_step-r.ensures c.settle.ensures

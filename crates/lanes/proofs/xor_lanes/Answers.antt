@@ -1,0 +1,9 @@
+-- `lanes::xor_lanes`: its formulas, read off the code, pass the test over the sixteen pairs of bits.
+use borrow.Author.Rules.{rules}
+use Rattle.bit.specs.Rules.{xor_bit}
+use Rattle.lanes.proofs.Places.{formula, both}
+use Rattle.lanes.proofs.xor_lanes.Goals as goal
+
+pub returns : goal.returns
+returns c =
+    both xor_bit c.args.a c.args.b (search formula depth 9) (search formula depth 9) tt tt (search rules) (search rules) (search rules) (search rules)

@@ -1,0 +1,13 @@
+-- `run_lines::unchecked::put_done`: the line has at most nine bytes.
+use native.Mathlib.Omega.{arith}
+use Rattle.lines.proofs.Put.{length-line}
+use Rattle.run_lines.specs.Output.{done_key, done_text}
+use Rattle.run_lines.proofs.Room.{decimal-three}
+use Rattle.run_lines.proofs.unchecked.put_done.Goals as goal
+
+pub shape_of-out : goal.shape_of-out
+shape_of-out c = omega (arith, length-line done_key c.args.k, decimal-three c.args.k c.requires.0, c.requires.1)
+
+pub returns : goal.returns
+unfolding done_text
+returns c = c.put_number_line.ensures

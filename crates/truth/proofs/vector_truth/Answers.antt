@@ -1,0 +1,17 @@
+-- `truth::vector_truth`: refused as checked, else by the unchecked function.
+use Rattle.value.specs.Checks.{check_operand}
+use Rattle.value.proofs.Checks.{verdict-told, vector-accepted, sound-planes}
+use Rattle.truth.proofs.vector_truth.Goals as goal
+
+pub truth-requires : goal.truth-requires
+truth-requires c = sound-planes (vector-accepted _ _ (verdict-told c.check_vector.ensures c.in-Accepted.is))
+
+pub returns-in-Refused : goal.returns-in-Refused
+unfolding check_operand
+returns-in-Refused c =
+    simp (verdict-told c.check_vector.ensures c.in-Refused.is)
+
+pub returns-in-Accepted : goal.returns-in-Accepted
+unfolding check_operand
+returns-in-Accepted c =
+    simp (verdict-told c.check_vector.ensures c.in-Accepted.is, c.truth.ensures.value_2)
