@@ -95,8 +95,8 @@ fn join_extents(
     ov: &mut [u64],
     ou: &mut [u64],
 )
-    requires covers { Covers x (lent_by av au) }
-    requires covers_2 { Covers y (lent_by bv bu) }
+    requires covers { Covers x (lent_by av.now au.now) }
+    requires covers_2 { Covers y (lent_by bv.now bu.now) }
     requires width_le_width { (x.width ≤ width) × (y.width ≤ width) }
     requires ov_len { (length ov.old ≡ word_count width) × (length ou.old ≡ word_count width) }
     ensures { lent_by ov.new ou.new

@@ -109,7 +109,7 @@ fn marks_at(
     n: usize,
     k: usize,
 ) -> Marks
-    requires covers { Covers a (lent_by av au) × Covers b (lent_by bv bu) }
+    requires covers { Covers a (lent_by av.now au.now) × Covers b (lent_by bv.now bu.now) }
     requires n_bound { (n * 64 ≤ width) × ((n * 64 ≤ a.width) × (n * 64 ≤ b.width)) }
     ensures { result
         ≡ cut_marks width k
@@ -153,7 +153,7 @@ pub fn scan_extents(
     bu: &[u64],
     width: u32,
 ) -> Found
-    requires covers { Covers a (lent_by av au) × Covers b (lent_by bv bu) }
+    requires covers { Covers a (lent_by av.now au.now) × Covers b (lent_by bv.now bu.now) }
     requires width_le_width { (a.width ≤ width) × (b.width ≤ width) }
     ensures { result
         ≡ found op (places_over width a (lent_by av.now au.now) b (lent_by bv.now bu.now)) }

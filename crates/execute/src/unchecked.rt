@@ -148,9 +148,9 @@ fn work_cells(
     ou: &mut [u64],
 )
     requires av_len { length av.now ≡ length au.now }
-    requires a_value { cell_agrees (lent_by av au) o.a.start o.a ≡ true }
-    requires b_value { cell_agrees (lent_by av au) o.b.start o.b ≡ true }
-    requires c_value { cell_agrees (lent_by av au) o.c.start o.c ≡ true }
+    requires a_value { cell_agrees (lent_by av.now au.now) o.a.start o.a ≡ true }
+    requires b_value { cell_agrees (lent_by av.now au.now) o.b.start o.b ≡ true }
+    requires c_value { cell_agrees (lent_by av.now au.now) o.c.start o.c ≡ true }
     requires header_value { arms_refused op o.b.header o.c.header ≡ false }
     requires h_value { h ≡ op_header op o.a.header o.b.header o.c.header }
     requires width_in_bounds { (word_count h.width ≤ length ov.old) × (word_count h.width ≤ length ou.old) }
@@ -194,7 +194,7 @@ pub fn execute<'a>(
     sv: &mut [u64],
     su: &mut [u64],
 )
-    requires { Executable p (fields_by starts widths signs fills) (lent_memory_by av au sv su) }
+    requires { Executable p (fields_by starts.now widths.now signs.now fills.now) (lent_memory_by av.old au.old sv.old su.old) }
     ensures { lent_memory_by av.new au.new sv.new su.new
         ≡ executed p (fields_by starts.now widths.now signs.now fills.now)
         (lent_memory_by av.old au.old sv.old su.old) }

@@ -77,7 +77,7 @@ pub fn plan_step<'a>(
     fills: &'a [bool; 320],
     room: Room,
 ) -> PlanAnswer
-    requires { (count ≤ 320) × (next ≡ words_taken (headers_by count widths signs fills)) × (next ≤ room.arena) }
+    requires { (count ≤ 320) × (next ≡ words_taken (headers_by count widths.now signs.now fills.now)) × (next ≤ room.arena) }
     ensures { plan_answer result
         ≡ after (check_step room (headers_by count widths.now signs.now fills.now) step)
         (given (planned (headers_by count widths.now signs.now fills.now) step)) }

@@ -34,7 +34,7 @@ fn vector_real(h: Header, value: &[u64], unknown: &[u64]) -> f64
 
 // The real that an operand counts as.
 fn operand_real(o: Operand, value: &[u64], unknown: &[u64]) -> f64
-    requires { WholePlanes o (lent_by value unknown) }
+    requires { WholePlanes o (lent_by value.now unknown.now) }
     ensures { result ≡ real_of o (lent_by value.now unknown.now) }
 {
     match o {

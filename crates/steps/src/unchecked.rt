@@ -29,7 +29,7 @@ pub fn run_steps(
     out: &mut [u8],
 ) -> Pass
     requires step_count_bound { (list.step_count ≤ 256) × (1052436 ≤ length out.old) }
-    requires fitted { Fitted inputs.fields inputs.count inputs.next (lent_by av au) }
+    requires fitted { Fitted inputs.fields inputs.count inputs.next (lent_by av.old au.old) }
     ensures { pass_by result av.new au.new sv.new su.new out.new
         ≡ final_of
         (run_steps

@@ -74,7 +74,7 @@ pub fn take_step<'a>(
     sv: &mut [u64],
     su: &mut [u64],
 ) -> StepAnswer
-    requires { Laid (fields_by starts widths signs fills) count next (lent_by av au) }
+    requires { Laid (fields_by starts.now widths.now signs.now fills.now) count next (lent_by av.old au.old) }
     ensures { outcome (taken_answer count result)
         (memory_by (taken_store result (store_by count starts.now widths.now signs.now fills.now))
         av.new au.new sv.new su.new)

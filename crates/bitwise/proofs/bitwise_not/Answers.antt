@@ -14,7 +14,7 @@ not_planes-requires c =
     let a = c.args in
     let p = vector-accepted a.a (lent a.av.now a.au.now) (verdict-told c.check_vector.ensures c.in-Accepted.is) in
     let l = exactly-accepted _ (lent a.ov.now a.ou.now) 5 (verdict-told c.check_output.ensures c.in-Accepted-check_output.is) in
-    ((p.planes.value-plane, p.planes.unknown-plane), l)
+    record { plane = (p.planes.value-plane, p.planes.unknown-plane); ov_len = l }
 
 pub returns-in-Refused : goal.returns-in-Refused
 returns-in-Refused c =

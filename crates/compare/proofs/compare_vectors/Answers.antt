@@ -7,7 +7,7 @@ pub compare-requires : goal.compare-requires
 compare-requires c =
     let a = c.args in
     let p = pair-accepted a.a (lent a.av.now a.au.now) a.b (lent a.bv.now a.bu.now) (verdict-told c.check_pair.ensures c.in-Accepted.is) in
-    ((p.0.planes.value-plane, p.0.planes.unknown-plane), (p.1.planes.value-plane, p.1.planes.unknown-plane))
+    record { plane = (p.0.planes.value-plane, p.0.planes.unknown-plane); plane_2 = (p.1.planes.value-plane, p.1.planes.unknown-plane) }
 
 pub returns-in-Refused : goal.returns-in-Refused
 returns-in-Refused c =

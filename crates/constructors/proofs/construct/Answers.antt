@@ -15,7 +15,7 @@ unfolding check_output
 extend_into-requires c =
     let a = c.args in
     let l = exactly-accepted _ (lent a.value.now a.unknown.now) 5 (verdict-told c.check_output.ensures c.in-Accepted.is) in
-    (l, (omega arith, omega arith))
+    record { value_len = l; from_width_in_bounds = (omega arith, omega arith) }
 
 pub returns-in-Refused : goal.returns-in-Refused
 returns-in-Refused c =

@@ -14,7 +14,7 @@ not_bits-requires c =
     let a = c.args in
     let p = vector-accepted a.a (lent a.av.now a.au.now) (verdict-told c.check_vector.ensures c.in-Accepted.is) in
     let l = exactly-accepted _ (lent a.ov.now a.ou.now) 5 (verdict-told c.check_output.ensures c.in-Accepted-check_output.is) in
-    ((p.planes.value-plane.count, p.planes.unknown-plane.count), l)
+    record { av_len = (p.planes.value-plane.count, p.planes.unknown-plane.count); ov_len = l }
 
 pub returns-in-Refused : goal.returns-in-Refused
 returns-in-Refused c =

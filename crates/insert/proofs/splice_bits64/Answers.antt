@@ -10,7 +10,7 @@ use Rattle.insert.proofs.splice_bits64.Goals as goal
 pub splice_bits64-requires : goal.splice_bits64-requires
 splice_bits64-requires c =
     let a = c.args in
-    sound-planes (vector-accepted a.a (lent a.value.now a.unknown.now) (verdict-told c.check_vector.ensures c.in-Accepted.is))
+    let all = sound-planes (vector-accepted a.a (lent a.value.now a.unknown.now) (verdict-told c.check_vector.ensures c.in-Accepted.is)) in record { plane = all.0; plane_2 = all.1 }
 
 pub returns-in-Refused : goal.returns-in-Refused
 returns-in-Refused c =

@@ -19,4 +19,4 @@ returns c =
     let e : c.not_lanes.result ≡ not_word a.a (width_mask a.width 0) =
     c.not_lanes.ensures ∙ ap (not_word a.a) (c.ones.ensures ∙ ap (λ (n : ℕ). 2 ^ n - 1) (c.least.ensures ∙ n)) in
     let f = words64 a.a (search rules) (search rules) in
-    (e, ap single e ∙ inverted-word a.width a.a ∙ by-words (min 64 a.width) (a.a.value ∷ []) (a.a.unknown ∷ []) f)
+    record { value = e; result_value = ap single e ∙ inverted-word a.width a.a ∙ by-words (min 64 a.width) (a.a.value ∷ []) (a.a.unknown ∷ []) f }

@@ -5,7 +5,7 @@ use Rattle.planes.proofs.extract64.Goals as goal
 pub extract64-requires : goal.extract64-requires
 extract64-requires c =
     let h = planes-accepted _ _ (verdict-told c.check_planes.ensures c.in-Accepted.is) in
-    (h.value-plane, h.unknown-plane)
+    record { plane = h.value-plane; plane_2 = h.unknown-plane }
 
 pub returns-in-Refused : goal.returns-in-Refused
 returns-in-Refused c = simp (verdict-told c.check_planes.ensures c.in-Refused.is)

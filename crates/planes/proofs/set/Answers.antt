@@ -11,7 +11,7 @@ use Rattle.planes.proofs.set.Goals as goal
 pub splice64-requires : goal.splice64-requires
 splice64-requires c =
     let h = planes-accepted _ _ (verdict-told c.check_planes.ensures c.in-Accepted.is) in
-    (h.value-plane, h.unknown-plane)
+    record { plane = h.value-plane; plane_2 = h.unknown-plane }
 
 pub returns-in-Refused : goal.returns-in-Refused
 returns-in-Refused c =

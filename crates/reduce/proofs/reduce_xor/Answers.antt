@@ -3,7 +3,7 @@ use Rattle.value.proofs.Checks.{verdict-told, vector-accepted, sound-planes}
 use Rattle.reduce.proofs.reduce_xor.Goals as goal
 
 pub xor_bits-requires : goal.xor_bits-requires
-xor_bits-requires c = sound-planes (vector-accepted _ _ (verdict-told c.check_vector.ensures c.in-Accepted.is))
+xor_bits-requires c = let all = sound-planes (vector-accepted _ _ (verdict-told c.check_vector.ensures c.in-Accepted.is)) in record { plane = all.0; plane_2 = all.1 }
 
 pub returns-in-Refused : goal.returns-in-Refused
 returns-in-Refused c = simp (verdict-told c.check_vector.ensures c.in-Refused.is)

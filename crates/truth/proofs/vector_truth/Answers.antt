@@ -4,7 +4,7 @@ use Rattle.value.proofs.Checks.{verdict-told, vector-accepted, sound-planes}
 use Rattle.truth.proofs.vector_truth.Goals as goal
 
 pub truth-requires : goal.truth-requires
-truth-requires c = sound-planes (vector-accepted _ _ (verdict-told c.check_vector.ensures c.in-Accepted.is))
+truth-requires c = let all = sound-planes (vector-accepted _ _ (verdict-told c.check_vector.ensures c.in-Accepted.is)) in record { plane = all.0; plane_2 = all.1 }
 
 pub returns-in-Refused : goal.returns-in-Refused
 unfolding check_operand

@@ -11,13 +11,13 @@ join_extents-requires c =
     let a = c.args in
     let p = c.requires in
     let l = extent-narrow a.a a.b (lent a.av.now a.au.now) c.extent-x.ensures in
-    let r = extent-narrow a.b a.a (lent a.bv.now a.bu.now) c.extent-y.ensures in (
+    let r = extent-narrow a.b a.a (lent a.bv.now a.bu.now) c.extent-y.ensures in let all = (
       (omega (arith, l, p.0.0.count), omega (arith, l, p.0.1.count)),
       (
         (omega (arith, r, p.1.0.0.count), omega (arith, r, p.1.0.1.count)),
         ((omega (arith, l, p.1.1.0), omega (arith, r, p.1.1.0)), p.1.1.1),
       ),
-    )
+    ) in record { covers = all.0; covers_2 = all.1; width_le_width = all.2; ov_len = all.3 }
 
 pub returns : goal.returns
 returns c =

@@ -20,4 +20,4 @@ loop-k-preserved c =
 
 pub returns : goal.returns
 returns c =
-    (fewer c.loop-k.invariant.1 _ (omega arith) (λ i _. refl), fewer c.loop-k.invariant.2 _ (omega arith) (λ i _. refl))
+    record { filled_to = fewer c.loop-k.invariant.1 _ (omega arith) (λ i _. refl); filled_to_2 = fewer c.loop-k.invariant.2 _ (omega arith) (λ i _. refl) }

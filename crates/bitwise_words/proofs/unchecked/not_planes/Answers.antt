@@ -48,4 +48,4 @@ returns c =
     ∙ ap (λ (n : ℕ). tabulate n (λ k. (inverted_word a.width (lent v u) k).value)) p.0)
     (done (more (rw z at h.2) (omega (arith, p.0, p.1)) (ap (λ (x : Word). x.unknown) e)) (omega (arith, p.0, p.1))
     ∙ ap (λ (n : ℕ). tabulate n (λ k. (inverted_word a.width (lent v u) k).unknown)) p.1) in
-    (r, r ∙ by-words a.width v u f)
+    record { ou_value = r; ou_value_2 = r ∙ by-words a.width v u f }

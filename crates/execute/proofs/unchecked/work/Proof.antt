@@ -54,9 +54,8 @@ module _ (c : tie.After-truth) where
   -- the arms have one width
   alike : let a = there.args in a.c.width ≡ a.b.width
   alike =
-      let s = there.before.before.before.before.before.before.before.before.before in
-      let a = s.args in
-      arms-alike a.b a.c (ap (λ (k : Family). family_refused k a.b a.c) (sym c.in-Select.is ∙ there.family_of.ensures) ∙ s.pre.1.1.1.0)
+      let a = there.args in
+      arms-alike a.b a.c (ap (λ (k : Family). family_refused k a.b a.c) (sym c.in-Select.is ∙ there.family_of.ensures) ∙ there.requires.1.1.1.0)
 
   -- the arm that is named, or both merged
   chosen : (t : Truth) → c.truth.result ≡ t → let a = there.args in

@@ -80,7 +80,7 @@ part-work-end-2 c =
 work-requires : tie.Need-work-requires
 work-requires c κs =
     let s = start c.before.before.before.before.before.before.before.before.before.before.before.before.before.before.before.before.before in
-    let room = s.pre.1.1.1.1.1.1 in
+    let room = s.requires.1.1.1.1.1.1 in
     let o = s.args.o in (
       (
         plane o.a _ _ c.cell_words-xv.ensures (read_a s).sound.planes.value-plane,
@@ -97,7 +97,7 @@ work-requires c κs =
             plane o.c _ _ c.cell_words-zu.ensures (read-c s).sound.planes.unknown-plane,
           ),
           (
-            s.pre.1.1.1.1.0,
+            s.requires.1.1.1.1.0,
             (
               length-take-le _ _ (omega (arith, c.word_count-n.ensures, room.0)) ∙ size c.before.before.before.before.before.before.before.before.before.before.before.before.before.before.before.before.before,
               length-take-le _ _ (omega (arith, c.word_count-n.ensures, room.1)) ∙ size c.before.before.before.before.before.before.before.before.before.before.before.before.before.before.before.before.before,
@@ -115,7 +115,7 @@ returns c =
     let n : ℕ = c.word_count-n.result - 0 in
     let a = arenas s in
     let r = op_vector g.op (cell_vector a o.a) (cell_vector a o.b) (cell_vector a o.c) g.pos in
-    let width = result-width (cell_vector a o.a) (cell_vector a o.b) (cell_vector a o.c) g.pos (length-tabulate _ _) (length-tabulate _ _) (length-tabulate _ _) g.op s.pre.1.1.1.1.0 in
+    let width = result-width (cell_vector a o.a) (cell_vector a o.b) (cell_vector a o.c) g.pos (length-tabulate _ _) (length-tabulate _ _) (length-tabulate _ _) g.op s.requires.1.1.1.1.0 in
     let words = size c.before.before.before.before.before.before.before.before.before.before.before.before.before.before.before.before.before.before.before.before.before.before ∙ ap word_count (sym width) in
     let e : lent c.work.new.1.1.1.1.1.1.1.1.1.1.1.0 c.work.new.1.1.1.1.1.1.1.1.1.1.1.1.0 ≡ planes_of r.bits =
     c.work.ensures

@@ -27,14 +27,13 @@ module _ (i : tie.After-is_word) where
   told : let a = counted.args in
       i.is_word.result ≡ stands (from_planes a.width a.value.now a.unknown.now) a.pos a.n a.bits
   told =
-      let n = counted in
-      let a = n.args in
+      let a = counted.args in
       let bs = from_planes a.width a.value.now a.unknown.now in
       i.is_word.ensures
       ∙ ap₂ (λ (w : Word) (m : ℕ). eqb w.value (bit_and a.bits.value m) && eqb w.unknown (bit_and a.bits.unknown m)) i.extract64-old.ensures i.ones-m.ensures
-      ∙ told-by-words bs a.pos n.least-count.result a.bits (omega (arith, n.least-count.ensures, n.least-room.ensures)) i.struct_known-2-1.given.0.fits i.struct_known-2-1.given.1.0.fits
+      ∙ told-by-words bs a.pos counted.least-count.result a.bits (omega (arith, counted.least-count.ensures, counted.least-room.ensures)) i.struct_known-2-1.given.0.fits i.struct_known-2-1.given.1.0.fits
       ∙ ap (λ (k : ℕ). all_below k (λ j. same (bit_of a.bits j) (at bs (a.pos + j))))
-      (n.least-count.ensures ∙ ap (min a.n) (n.least-room.ensures ∙ ap (λ (k : ℕ). min 64 (k - a.pos)) (sym (length-tabulate a.width _))))
+      (counted.least-count.ensures ∙ ap (min a.n) (counted.least-room.ensures ∙ ap (λ (k : ℕ). min 64 (k - a.pos)) (sym (length-tabulate a.width _))))
 
 returns : tie.Need-returns-then-w-pos
 unfolding all_below

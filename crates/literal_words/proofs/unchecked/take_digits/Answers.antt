@@ -44,4 +44,4 @@ loop-i-preserved c =
 pub returns : goal.returns
 returns c =
     let h = c.loop-i.invariant in
-    let none = drop_of_length-le _ c.loop-i-test.false in (end h.to_value none, end h.to_unknown none)
+    let none = drop_of_length-le _ c.loop-i-test.false in record { taken = end h.to_value none; taken_2 = end h.to_unknown none }

@@ -71,8 +71,7 @@ module _ (c : tie.After-shared_slice_known-in-loop-k-2-1 invariant-loop decrease
 
   marks : get_or (zeros turn) turn.loop-k.k 0 ≡ complement (bit_or (get_or (values turn) turn.loop-k.k 0) (get_or (unknowns turn) turn.loop-k.k 0))
   marks =
-      let s = turn.before.before.before in
-      zeros-whole s.args.width (values turn) (unknowns turn) turn.loop-k.k inside (omega (arith, s.pre.0.count))
+      zeros-whole turn.args.width (values turn) (unknowns turn) turn.loop-k.k inside (omega (arith, turn.requires.0.count))
 
 -- the last word
 module _ (c : tie.After-shared_slice_known-4-1 invariant-loop decreases-loop) where
@@ -93,9 +92,8 @@ module _ (c : tie.After-shared_slice_known-4-1 invariant-loop decreases-loop) wh
 
   top-marks : get_or (zeros over) last 0 ≡ bit_and (complement (bit_or (get_or (values over) last 0) (get_or (unknowns over) last 0))) c.ones-m.result
   top-marks =
-      let s = over.before.before.before in
-      let e : s.args.width - last * 64 ≡ min 64 (s.args.width - last * 64) = omega (arith, s.pre.0.count) in
-      zeros-cut s.args.width (values over) (unknowns over) last some_word c.ones-m.result (c.ones-m.ensures ∙ ap (λ (n : ℕ). 2 ^ n - 1) e)
+      let e : over.args.width - last * 64 ≡ min 64 (over.args.width - last * 64) = omega (arith, over.requires.0.count) in
+      zeros-cut over.args.width (values over) (unknowns over) last some_word c.ones-m.result (c.ones-m.ensures ∙ ap (λ (n : ℕ). 2 ^ n - 1) e)
 
 -- all words are scanned
 finished : (c : tie.Else-value-last-ne0 invariant-loop decreases-loop) (z : Bool) → let l = over c.before in not_zero (bit_or l.loop-k.seen (get_or (unknowns l) (length (values l) - 1) 0)) ≡ z

@@ -71,14 +71,14 @@ put-bits-line-requires c κs =
       omega (
         arith,
         length-line cell_key a.n,
-        decimal-three a.n s.pre.0.0,
-        s.pre.0.1,
+        decimal-three a.n s.requires.0.0,
+        s.requires.0.1,
         place_of a.out.now a.at (cell_key ++ number_text a.n) n.put-number-line.ensures,
         n.put-number-line.kept.0,
       ),
       (
-        length-take-le _ _ (omega (arith, is c.before.before.before.before.before, s.pre.1.0)) ∙ is c.before.before.before.before.before,
-        length-take-le _ _ (omega (arith, is c.before.before.before.before.before, s.pre.1.1)) ∙ is c.before.before.before.before.before,
+        length-take-le _ _ (omega (arith, is c.before.before.before.before.before, s.requires.1.0)) ∙ is c.before.before.before.before.before,
+        length-take-le _ _ (omega (arith, is c.before.before.before.before.before, s.requires.1.1)) ∙ is c.before.before.before.before.before,
       ),
     )
 
@@ -94,7 +94,7 @@ returns c =
     let line : ℕ → List ℕ = λ m. bits_key ++ bits_text (from_planes a.h.width (take m a.value.now) (take m a.unknown.now)) in
     after a.out.now a.at (cell_key ++ number_text a.n) (line (word_count a.h.width)) n.put-number-line.ensures
     (c.put_bits_line.ensures ∙ ap (λ m. put (buffer n.put-number-line.last.0 n.put-number-line.result) (line m)) (is c.before.before.before.before.before.before.before.before))
-    (omega (arith, s.pre.0.1))
+    (omega (arith, s.requires.0.1))
 
 pub put_step_spec : {M : Type 1} → statement M
 put_step_spec =

@@ -185,7 +185,7 @@ loop-again c =
       walked =
           walk_more (count s) (step (list s)) (entered s) s.args.out.now (found a) (turn a).loop.out (turn a).loop.at (place a) i.walked (inside a)
           (given (filled a)) (left a (store_of (filled a + 1) g)) (bytes c) c.put_step-at.result called (filled a) refl (written c)
-          (omega (arith, inside a, s.pre.0.0, s.pre.0.1, i.walked.short, i.walked.long)) (short c) same;
+          (omega (arith, inside a, s.requires.0.0, s.requires.0.1, i.walked.short, i.walked.long)) (short c) same;
     }
 
 put-done-requires : tie.Need-put_done-requires Inv-loop μ-loop
