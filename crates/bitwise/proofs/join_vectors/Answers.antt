@@ -14,10 +14,7 @@ join_planes-requires c =
     let a = c.args in
     let p = (vector-accepted a.a (lent a.av.now a.au.now) (verdict-told c.check_vector.ensures c.in-Accepted.is)).planes in
     let q = (vector-accepted a.b (lent a.bv.now a.bu.now) (verdict-told c.check_vector-in-Accepted.ensures c.in-Accepted-check_vector.is)).planes in
-    let l = exactly-accepted _ (lent a.ov.now a.ou.now) 5 (verdict-told c.check_output.ensures c.in-Accepted-check_output.is) in let all = (
-      (p.value-plane, p.unknown-plane),
-      ((q.value-plane, q.unknown-plane), (ap (λ (x : Header). x.width) c.result_header-h.ensures, l)),
-    ) in record { plane = all.0; plane_2 = all.1; width_value = all.2; ov_len = all.3 }
+    let l = exactly-accepted _ (lent a.ov.now a.ou.now) 5 (verdict-told c.check_output.ensures c.in-Accepted-check_output.is) in record { plane = (p.value-plane, p.unknown-plane); plane_2 = (q.value-plane, q.unknown-plane); width_value = ap (λ (x : Header). x.width) c.result_header-h.ensures; ov_len = l }
 
 pub returns-in-Refused : goal.returns-in-Refused
 returns-in-Refused c =

@@ -81,7 +81,7 @@ word-count-requires c κs = search rules
 
 add_at : tie.Need-overflow_add-at invariant-loop decreases-loop
 add_at c =
-    let f = cell-fits (arenas (st a)) (l c.before.before.before).loop.at (cell c.before.before.before) (told c.before.before.before true (not-false _ c.if-not-cell_agrees.false-raw)) in
+    let f = cell-fits (arenas (st c.before.before.before)) (l c.before.before.before).loop.at (cell c.before.before.before) (told c.before.before.before true (not-false _ c.if-not-cell_agrees.false-raw)) in
     omega (arith, f.begins, f.within, c.word_count-at.ensures)
 
 add-i : tie.Need-overflow_add-i invariant-loop decreases-loop

@@ -12,4 +12,4 @@ returns-then-not-zeros c =
 
 pub returns : goal.returns
 returns c =
-    simp (not-false c.args.negative c.if-not-negative.false-raw, not-false c.args.zeros c.if-not-zeros.false-raw) c.wrapping_add_u64.ensures
+    simp (not-false c.args.negative c.if-not-negative.false-raw, not-false c.args.zeros c.if-not-zeros.false-raw) c.wrapping_add_u64.ensures.value

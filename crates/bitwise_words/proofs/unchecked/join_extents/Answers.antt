@@ -18,8 +18,8 @@ loop-k-init c =
     let a = c.args in
     let n = ap (λ (k : ℕ). k / 64) c.least-k.ensures in
     let h = c.join_whole.ensures in (
-      value_written a.op a.width a.x a.av.now a.au.now a.y a.bv.now a.bu.now c.requires.covers_2.1.0.0 _ _ _ _ (h.0.long ∙ c.requires.covers_2.1.1.0) n h.0,
-      unknown-written a.op a.width a.x a.av.now a.au.now a.y a.bv.now a.bu.now c.requires.covers_2.1.0.0 _ _ _ _ (h.1.long ∙ c.requires.covers_2.1.1.1) n h.1,
+      value_written a.op a.width a.x a.av.now a.au.now a.y a.bv.now a.bu.now c.requires.width_le_width.0 _ _ _ _ (h.filled_to.long ∙ c.requires.ov_len.0) n h.filled_to,
+      unknown-written a.op a.width a.x a.av.now a.au.now a.y a.bv.now a.bu.now c.requires.width_le_width.0 _ _ _ _ (h.filled_to_2.long ∙ c.requires.ov_len.1) n h.filled_to_2,
       omega (arith, c.ranges.width),
     )
 
@@ -39,11 +39,11 @@ loop-k-preserved c =
 
 pub shape_of-ov : goal.shape_of-ov
 shape_of-ov c =
-    c.loop-k.invariant.0.long ∙ sym c.requires.covers_2.1.1.0
+    c.loop-k.invariant.0.long ∙ sym c.requires.ov_len.0
 
 pub shape_of-ou : goal.shape_of-ou
 shape_of-ou c =
-    c.loop-k.invariant.1.long ∙ sym c.requires.covers_2.1.1.1
+    c.loop-k.invariant.1.long ∙ sym c.requires.ov_len.1
 
 pub returns : goal.returns
 returns c =

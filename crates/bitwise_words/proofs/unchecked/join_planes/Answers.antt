@@ -11,17 +11,11 @@ join_extents-requires c =
     let a = c.args in
     let p = c.requires in
     let l = extent-narrow a.a a.b (lent a.av.now a.au.now) c.extent-x.ensures in
-    let r = extent-narrow a.b a.a (lent a.bv.now a.bu.now) c.extent-y.ensures in let all = (
-      (omega (arith, l, p.0.0.count), omega (arith, l, p.0.1.count)),
-      (
-        (omega (arith, r, p.1.0.0.count), omega (arith, r, p.1.0.1.count)),
-        ((omega (arith, l, p.1.1.0), omega (arith, r, p.1.1.0)), p.1.1.1),
-      ),
-    ) in record { covers = all.0; covers_2 = all.1; width_le_width = all.2; ov_len = all.3 }
+    let r = extent-narrow a.b a.a (lent a.bv.now a.bu.now) c.extent-y.ensures in record { covers = (omega (arith, l, p.plane.0.count), omega (arith, l, p.plane.1.count)); covers_2 = (omega (arith, r, p.plane_2.0.count), omega (arith, r, p.plane_2.1.count)); width_le_width = (omega (arith, l, p.width_value), omega (arith, r, p.width_value)); ov_len = p.ov_len }
 
 pub returns : goal.returns
 returns c =
     let a = c.args in
     c.join_extents.ensures
     ∙ ap planes_of
-    (settled (op_bit a.op) a.a a.b a.av.now a.au.now a.bv.now a.bu.now c.extent-x.ensures c.extent-y.ensures _ c.requires.plane_2.1.0)
+    (settled (op_bit a.op) a.a a.b a.av.now a.au.now a.bv.now a.bu.now c.extent-x.ensures c.extent-y.ensures _ c.requires.width_value)

@@ -21,6 +21,6 @@ pub returns-else-k-n : goal.returns-else-k-n
 unfolding cut_marks
 returns-else-k-n c =
     let a = c.args in
-    ap₂ (λ (c : Marks) (m : ℕ). marks_by (bit_and r.apart m) (bit_and r.doubt m))
-    (c.lane_marks-r.ensures ∙ ap₂ (λ (c c : Word). marks_of a.op c c) c.operand_word-x.ensures c.operand_word-y.ensures)
+    ap₂ (λ (r : Marks) (m : ℕ). marks_by (bit_and r.apart m) (bit_and r.doubt m))
+    (c.lane_marks-r.ensures ∙ ap₂ (λ (x y : Word). marks_of a.op x y) c.operand_word-x.ensures c.operand_word-y.ensures)
     (c.ones-m.ensures ∙ ap (λ (n : ℕ). 2 ^ n - 1) c.kept.ensures)

@@ -14,7 +14,7 @@ scan_extents-requires c =
     let p = c.requires in
     let hx = extent-narrow a.a a.b (lent a.av.now a.au.now) c.extent-x.ensures in
     let hy = extent-narrow a.b a.a (lent a.bv.now a.bu.now) c.extent-y.ensures in
-    let long : (l w n : ℕ) → n ≤ w → l ≡ word_count w → word_count n ≤ l = λ l w n h e. omega (arith, h, e) in record { covers = ((long _ _ _ hx p.0.0.count, long _ _ _ hx p.0.1.count), (long _ _ _ hy p.1.0.count, long _ _ _ hy p.1.1.count)); width_le_width = (omega (arith, hx, c.larger-width.ensures), omega (arith, hy, c.larger-width.ensures)) }
+    let long : (l w n : ℕ) → n ≤ w → l ≡ word_count w → word_count n ≤ l = λ l w n h e. omega (arith, h, e) in record { covers = ((long _ _ _ hx p.plane.0.count, long _ _ _ hx p.plane.1.count), (long _ _ _ hy p.plane_2.0.count, long _ _ _ hy p.plane_2.1.count)); width_le_width = (omega (arith, hx, c.larger-width.ensures), omega (arith, hy, c.larger-width.ensures)) }
 
 pub returns : goal.returns
 returns c =

@@ -110,26 +110,26 @@ work-cells-requires c κs =
 
 copy-behind-requires : tie.Need-copy_behind-requires
 copy-behind-requires c κs =
-    let h = ready (k w) in
-    let v = value-front (step (k w)) (table (k w)) (memory (k w)) h in
-    let u = unknown-front (step (k w)) (table (k w)) (memory (k w)) h in
-    let x : length (scratch c.before.before.before.before.before.before.before).value ≡ length (memory (k w)).scratch.value = ap (λ (p : Planes). length p.value) (worked c.before.before.before.before.before.before.before) ∙ v.1 in
-    let y : length (scratch c.before.before.before.before.before.before.before).unknown ≡ length (memory (k w)).scratch.unknown = ap (λ (p : Planes). length p.unknown) (worked c.before.before.before.before.before.before.before) ∙ u.1 in (
+    let h = ready (k c.before.before.before.before.before.before.before) in
+    let v = value-front (step (k c.before.before.before.before.before.before.before)) (table (k c.before.before.before.before.before.before.before)) (memory (k c.before.before.before.before.before.before.before)) h in
+    let u = unknown-front (step (k c.before.before.before.before.before.before.before)) (table (k c.before.before.before.before.before.before.before)) (memory (k c.before.before.before.before.before.before.before)) h in
+    let x : length (scratch c.before.before.before.before.before.before.before).value ≡ length (memory (k c.before.before.before.before.before.before.before)).scratch.value = ap (λ (p : Planes). length p.value) (worked c.before.before.before.before.before.before.before) ∙ v.1 in
+    let y : length (scratch c.before.before.before.before.before.before.before).unknown ≡ length (memory (k c.before.before.before.before.before.before.before)).scratch.unknown = ap (λ (p : Planes). length p.unknown) (worked c.before.before.before.before.before.before.before) ∙ u.1 in (
       (omega (arith, x, h.value_room, c.word_count.ensures), omega (arith, y, h.unknown-room, c.word_count.ensures)),
       (omega (arith, h.room, c.word_count.ensures), omega (arith, h.room, h.level, c.word_count.ensures)),
     )
 
 returns : tie.Need-returns
 returns c =
-    let p = step (k w) in
-    let m = memory (k w) in
-    let h = ready (k w) in
-    let r = planes_of (planned_result p (table (k w)) m.arenas).bits in
+    let p = step (k c.before.before.before.before.before.before.before.before.before.before.before.before) in
+    let m = memory (k c.before.before.before.before.before.before.before.before.before.before.before.before) in
+    let h = ready (k c.before.before.before.before.before.before.before.before.before.before.before.before) in
+    let r = planes_of (planned_result p (table (k c.before.before.before.before.before.before.before.before.before.before.before.before)) m.arenas).bits in
     let e =
     c.copy_behind.ensures
     ∙ ap₂ (λ (i : ℕ) (q : Planes). put_planes p.start (lent (take i q.value) (take i q.unknown)) m.arenas) c.word_count.ensures (worked c.before.before.before.before.before.before.before.before.before.before.before.before)
     ∙ ap₂ (λ (v u : List ℕ). put_planes p.start (lent v u) m.arenas)
-    (value-front p (table (k w)) m h).0 (unknown-front p (table (k w)) m h).0 in
+    (value-front p (table (k c.before.before.before.before.before.before.before.before.before.before.before.before)) m h).0 (unknown-front p (table (k c.before.before.before.before.before.before.before.before.before.before.before.before)) m h).0 in
     λ i. record { arenas = e i; scratch = worked c.before.before.before.before.before.before.before.before.before.before.before.before i }
 
 pub execute_spec : {M : Type 1} → statement M

@@ -262,7 +262,7 @@ add-i : tie.Need-overflow_add-i invariant-loop decreases-loop
 add-i c = omega (arith, (is c.before.before).few)
 
 loop-less : tie.Need-loop-i-smaller invariant-loop decreases-loop
-loop-less c = omega (arith, inside (b t))
+loop-less c = omega (arith, inside (b c.before.before))
 
 returns-3 : tie.Need-returns invariant-loop decreases-loop
 returns-3 c =

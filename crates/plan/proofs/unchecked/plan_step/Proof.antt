@@ -97,8 +97,8 @@ module _ (k : tie.After-header_at-z) where
 arms : (a : tie.After-arms_refused) (b : Bool) → let s = st a.before in a.arms_refused.result ≡ b
     → arms_refused s.args.step.op (header_at (hs s) s.args.step.b) (header_at (hs s) s.args.step.c) ≡ b
 arms a b q =
-    arms-named (hs (st k)) (step (e k))
-    ∙ (λ i. arms_refused (step (e k)).op (sym (y-read a.before) i) (sym (z-read a.before) i))
+    arms-named (hs (st a.before)) (step (e a.before))
+    ∙ (λ i. arms_refused (step (e a.before)).op (sym (y-read a.before) i) (sym (z-read a.before) i))
     ∙ sym a.arms_refused.ensures ∙ q
 
 -- the result's header and its words
@@ -146,7 +146,7 @@ returns c = simp (le-leb _ _ (full c.before c.if-count-ge320.true))
 returns-2 : tie.Need-returns-then-count-a
 unfolding check_step
 returns-2 c =
-    simp (lt-leb _ _ (few (begin n) c.if-count-ge320.false), told c.before.before.before.before true c.if-count-a.true)
+    simp (lt-leb _ _ (few (begin c.before.before.before.before) c.if-count-ge320.false), told c.before.before.before.before true c.if-count-a.true)
 
 header-at-requires : tie.Need-header_at-x-requires
 header-at-requires c κs = omega (arith, (there c).a, ap (λ (t : Step). t.a) (first c).named.ensures, (start c).requires.0)
@@ -171,7 +171,7 @@ returns-4 c = simp (decided c.before.before.before true c.if-room-next.true)
 
 returns-5 : tie.Need-returns
 returns-5 c =
-    let n = (first (e (k w))).named.ensures in
+    let n = (first (e (k c.before.before.before.before))).named.ensures in
     simp (decided c.before.before.before.before false c.if-room-next.false)
     (λ i. given (record {
       op = (s c.before.before.before.before).args.step.op;

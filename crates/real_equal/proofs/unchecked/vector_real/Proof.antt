@@ -59,11 +59,11 @@ sub-nearest-i64-to-f64 c = omega (arith, all-is c.before, ones_lt (low (read c.b
 
 returns-4 : tie.Need-returns
 returns-4 c =
-    let n : ℕ = known_ones (start (read o)).args.value.now (start (read o)).args.unknown.now in
+    let n : ℕ = known_ones (start (read c.before.before)).args.value.now (start (read c.before.before)).args.unknown.now in
     let k : c.ones-all.result - n < 2 ^ 63 = omega arith in
     c.nearest_i64_to_f64.ensures
     ∙ ap (of_int binary64)
-    (complement (c.ones-all.result - n) k ∙ ap (λ (x : ℕ). negsuc (x - n)) (all-is c.before.before) ∙ negative (bits c.before.before) n (rw (all-is c.before.before) at c.if-n-all.false) (ones_lt (low (read o))) ∙ number c.before.before)
+    (complement (c.ones-all.result - n) k ∙ ap (λ (x : ℕ). negsuc (x - n)) (all-is c.before.before) ∙ negative (bits c.before.before) n (rw (all-is c.before.before) at c.if-n-all.false) (ones_lt (low (read c.before.before))) ∙ number c.before.before)
 
 pub vector_real_spec : {M : Type 1} → statement M
 vector_real_spec =

@@ -61,7 +61,7 @@ module _ (i : tie.After-take_input) where
 
 take-input-requires : tie.Need-take_input-requires
 take-input-requires c κs =
-    let s = all (k t) in
+    let s = all (k c.before.before) in
     let within = next-within s.arenas s.store.cells s.store.count (found c.before.before).0 in
     (omega (arith, within, (found c.before.before).1), (state-agrees s (found c.before.before).0).level)
 
@@ -77,13 +77,13 @@ returns c =
 
 returns-2 : tie.Need-returns-in-Refused-take_input
 returns-2 c =
-    let b = k (t i) in
+    let b = k (t c.before.before.before.before.before.before.before) in
     let r = c.known_told-in-Refused-take_input-1.given in
-    (input-refused (all b) (st b).args.h (input b) (places b) (found (t i)).0 (refusal_number r.0.0) (left c.before.before.before.before.before.before.before) (told c.before.before.before.before.before.before.before (Refused r.0.0) r.1)).1
+    (input-refused (all b) (st b).args.h (input b) (places b) (found (t c.before.before.before.before.before.before.before)).0 (refusal_number r.0.0) (left c.before.before.before.before.before.before.before) (told c.before.before.before.before.before.before.before (Refused r.0.0) r.1)).1
 
 returns-3 : tie.Need-returns-in-At-take_input
 returns-3 c =
-    ap (λ (s : Store). outcome (given (all (k (t i))).store.count) (state s (left c.before.before.before.before.before.before.before.before))) c.with_cell.ensures ∙ (taken c.before.before.before.before.before.before.before.before c.in-At-take_input.at c.in-At-take_input.is).added
+    ap (λ (s : Store). outcome (given (all (k (t c.before.before.before.before.before.before.before.before))).store.count) (state s (left c.before.before.before.before.before.before.before.before))) c.with_cell.ensures ∙ (taken c.before.before.before.before.before.before.before.before c.in-At-take_input.at c.in-At-take_input.is).added
 
 pub add_input_spec : {M : Type 1} → statement M
 add_input_spec =

@@ -79,12 +79,12 @@ added-at c = c.before.before.before.before.before.before.before.before.before.be
 
 take-step-requires : tie.Need-take_step-requires
 take-step-requires c κs =
-    record { agreed = subst (λ (s : Store). agrees (state s (all (k t)).arenas) ≡ true) (same c.before.before.before.before.before.before.before.before) (found c.before.before.before.before.before.before.before.before.before).0; words = sym (found c.before.before.before.before.before.before.before.before.before).1 ∙ ap next_word (same c.before.before.before.before.before.before.before.before) }
+    record { agreed = subst (λ (s : Store). agrees (state s (all (k c.before.before.before.before.before.before.before.before.before)).arenas) ≡ true) (same c.before.before.before.before.before.before.before.before) (found c.before.before.before.before.before.before.before.before.before).0; words = sym (found c.before.before.before.before.before.before.before.before.before).1 ∙ ap next_word (same c.before.before.before.before.before.before.before.before) }
 
 with-cell-requires : tie.Need-with_cell-requires
 with-cell-requires c κs =
     let a = c.known_told-in-Added-1.given in
-    step-few (before c.before.before.before.before.before.before.before.before.before.before.before) _ (st (b (f i))).args.step _ (places (b (f i))) (told c.before.before.before.before.before.before.before.before.before.before.before (Added a.0.0) a.1)
+    step-few (before c.before.before.before.before.before.before.before.before.before.before.before) _ (st (b (f c.before.before.before.before.before.before.before.before.before.before.before))).args.step _ (places (b (f c.before.before.before.before.before.before.before.before.before.before.before))) (told c.before.before.before.before.before.before.before.before.before.before.before (Added a.0.0) a.1)
 
 returns : tie.Need-returns-in-Refused
 returns c =
