@@ -124,11 +124,11 @@ words-again c =
     let k = c.words.k in
     let none = c.loop-bits.invariant.0 ∙ ap (λ (n : ℕ). n * 2 ^ c.loop-bits.j) c.loop-bits-test.false ∙ zero-mul _ in
     ⊎_elim
-    (λ t. rw (t.1, t.2)
-    (next-first a.op f g a.width k (word_at f k) (word_at g k) (word-bit f k) (word-bit g k) _ c.marks_at-m.ensures _ _ _ c.words.invariant none t.0.taken))
-    (λ t. rw (t.1, t.2)
-    (next a.op f g a.width k (word_at f k) (word_at g k) (word-bit f k) (word-bit g k) _ c.marks_at-m.ensures _ _ _ c.words.invariant none t.0.left))
-    c.if-doubt-eq0-2.branch
+    (λ t. rw (t.first-is, t.at-is)
+    (next-first a.op f g a.width k (word_at f k) (word_at g k) (word-bit f k) (word-bit g k) _ c.marks_at-m.ensures _ _ _ c.words.invariant none t.if-doubt-eq0-2.true))
+    (λ t. rw (t.first-is, t.at-is)
+    (next a.op f g a.width k (word_at f k) (word_at g k) (word-bit f k) (word-bit g k) _ c.marks_at-m.ensures _ _ _ c.words.invariant none t.if-doubt-eq0-2.false))
+    c.if-doubt-eq0-2.branch-raw
 
 add-t19 : tie.Need-overflow_add-result-2 invariant-loop decreases-loop invariant-words decreases-words
 add-t19 c = omega (arith, lies c.before)
