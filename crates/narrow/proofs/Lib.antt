@@ -1,5 +1,5 @@
 pub mod Singles
 pub mod Operands
 pub mod Operators
-pub mod Answers
+pub mod Answered
 pub mod Comparisons

@@ -4,7 +4,7 @@ use mathlib.Core.Bool.{true, false, not}
 use Prim.Native.Nat.{ℕ, ◌-◌, ◌^◌, min}
 use native.Mathlib.Omega.{arith}
 use borrow.Author.Tests.{eq-eqb, ne_eqb}
-use Rattle.narrow.proofs.Answers.{and_word}
+use Rattle.narrow.proofs.Answered.{and_word}
 use borrow.Author.Rules.{rules}
 use Rattle.narrow.proofs.reduce_and.Statement.{statement}
 use Rattle.narrow.proofs.reduce_and.Tie as tie

@@ -1,7 +1,7 @@
 -- `narrow::reduce_xor`: an unknown bit, else the parity of the value word.
 use mathlib.Core.Bool.{true, false}
 use borrow.Author.Tests.{eq-eqb, ne_eqb}
-use Rattle.narrow.proofs.Answers.{parity-unknown, parity-known}
+use Rattle.narrow.proofs.Answered.{parity-unknown, parity-known}
 use borrow.Author.Rules.{rules}
 use Rattle.narrow.proofs.reduce_xor.Goals as goal
 

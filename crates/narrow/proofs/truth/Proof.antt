@@ -5,7 +5,7 @@ use Rattle.words.specs.Planes.{vector_of}
 use Rattle.reduce_words.specs.Fold.{truth_of, not_zero, truth_by_words}
 use Rattle.reduce_words.proofs.ByWords.{told}
 use Rattle.narrow.specs.Narrow.{single}
-use Rattle.narrow.proofs.Answers.{truth-word, truth-bits}
+use Rattle.narrow.proofs.Answered.{truth-word, truth-bits}
 use borrow.Author.Tests.{eq-eqb, ne_eqb}
 use borrow.Author.Rules.{rules}
 use Rattle.narrow.proofs.truth.Statement.{statement}
