@@ -5,7 +5,7 @@
 
 ghost use Rattle.std.specs.Prelude.{◌≡◌, length};
 
-use libc::{STDERR_FILENO, STDOUT_FILENO};
+use std::io;
 use stdin::read_all;
 
 // Zeros, one more than a list may have bytes.
@@ -15,14 +15,12 @@ fn room() -> [u8; 65537]
     [0; 65537]
 }
 
-fn main() {
+fn main(rt: HostRuntime) -> io::Result<()> {
     let mut text = room();
-    let got = read_all(&mut text);
-    if got.failed {
-        io::write_all(STDERR_FILENO, b"cones: standard input cannot be read\n");
-        return;
-    }
-    let n = got.count;
+    let mut input = rt.stdin();
+    let Ok(n) = read_all(&mut input, &mut text) else {
+        return eprintln!(rt; "cones: standard input cannot be read");
+    };
     let mut arena_value = [0u64; 2048];
     let mut arena_unknown = [0u64; 2048];
     let mut scratch_value = [0u64; 2048];
@@ -37,7 +35,8 @@ fn main() {
         &mut out,
     );
     let length = r.length;
-    if !io::write_all(STDOUT_FILENO, &out[0..length]) {
-        io::write_all(STDERR_FILENO, b"cones: standard output cannot be written\n");
+    if rt.write_all(&out[0..length]).is_err() {
+        return eprintln!(rt; "cones: standard output cannot be written");
     }
+    Ok(())
 }
