@@ -1,9 +1,11 @@
 // The readers of a table, and the report of what agrees.
-ghost use Rattle.std.specs.Prelude.{◌≡◌, ◌≤◌, max, length, nat_lt, IfOk};
+ghost use Rattle.std.specs.Prelude.{◌≡◌, ◌≤◌, max, take, length, nat_lt, IfOk, OnOk, IfSome};
+ghost use Rattle.std.specs.Io.KnownBytes.{Appends};
 ghost use Rattle.words.specs.Planes.{lent_by};
 ghost use Rattle.replay.specs.Text.{Filled, place_from, field_text};
 ghost use Rattle.replay.specs.Fields.{field_of, reading, read_field, left_at, are_left};
 ghost use Rattle.replay.specs.Calls.{call_of};
+ghost use Rattle.replay.specs.Report.{table_in, table_told, line_told, total_told};
 
 use crate::parse::{
     bare, bits_of, decimal, fits, has, load, number_of, part, real, sizes_of, until, word,
@@ -18,6 +20,9 @@ use words::unchecked::least;
 pub fn table<R: Read, W: Write>(file: &mut R, s: &mut [u8], out: &mut W) -> io::Result<usize>
     ensures filled { IfOk result (λ n. Filled s.old s.new n) }
     ensures kept { length s.new ≡ length s.old }
+    ensures read { IfOk result (λ n. IfSome (R.remaining file.old) (λ t. take n s.new ≡ table_in (length s.old) t)) }
+    ensures wrote { OnOk result (IfSome (R.remaining file.old) (λ t.
+        Appends (W.contents out.old) (W.contents out.new) (table_told (length s.old) t))) }
 {
     let n = read_all(file, s)?;
     if n < s.len() {
@@ -119,7 +124,8 @@ pub fn are_left(line: &[u8], out: usize, value: &[u64], unknown: &[u64]) -> bool
 
 // Writes a line out if it differs, and else if it is to be shown; gives on whether it agrees.
 pub fn report<W: Write>(line: &[u8], agrees: bool, show: bool, out: &mut W) -> io::Result<bool>
-    ensures { IfOk result (λ r. r ≡ agrees) }
+    ensures value { IfOk result (λ r. r ≡ agrees) }
+    ensures wrote { OnOk result (Appends (W.contents out.old) (W.contents out.new) (line_told line.now agrees show)) }
 {
     if agrees && !show {
         return Ok(true);
@@ -134,7 +140,8 @@ pub fn report<W: Write>(line: &[u8], agrees: bool, show: bool, out: &mut W) -> i
 
 // Writes out how many lines of a table agree; gives whether any does.
 pub fn total<W: Write>(path: &[u8], agreed: u64, out: &mut W) -> io::Result<bool>
-    ensures { IfOk result (λ r. r ≡ nat_lt 0 agreed) }
+    ensures value { IfOk result (λ r. r ≡ nat_lt 0 agreed) }
+    ensures wrote { OnOk result (Appends (W.contents out.old) (W.contents out.new) (total_told path.now agreed)) }
 {
     out.write_all(path)?;
     writeln!(out, ": {agreed} agree")?;
