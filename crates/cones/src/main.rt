@@ -3,10 +3,20 @@
 // either.
 #![tactic(auto)]
 
-ghost use Rattle.std.specs.Prelude.{◌≡◌, length};
+ghost use Rattle.std.specs.Prelude.{◌≡◌, ◌≤◌, length, take, IfSome, OnOk, IsErrOf};
+ghost use Rattle.std.specs.Io.KnownBytes.{Appends};
+ghost use Rattle.cones.specs.Program.{written};
 
-use libc::{STDERR_FILENO, STDOUT_FILENO};
+use std::io;
+use std::io::{Read, Write};
 use stdin::read_all;
+
+// Which stream failed.
+#[derive(Clone, Copy)]
+pub enum Failure {
+    Input,
+    Output,
+}
 
 // Zeros, one more than a list may have bytes.
 fn room() -> [u8; 65537]
@@ -15,29 +25,48 @@ fn room() -> [u8; 65537]
     [0; 65537]
 }
 
-fn main() {
-    let mut text = room();
-    let got = read_all(&mut text);
-    if got.failed {
-        io::write_all(STDERR_FILENO, b"cones: standard input cannot be read\n");
-        return;
-    }
-    let n = got.count;
+// Runs a list, and tells how many bytes at the front of the buffer say what the run says.
+fn told(list: &[u8], out: &mut [u8; 1052436]) -> usize
+    ensures within { result ≤ length out.new }
+    ensures text { take result out.new ≡ written list.now }
+{
     let mut arena_value = [0u64; 2048];
     let mut arena_unknown = [0u64; 2048];
     let mut scratch_value = [0u64; 2048];
     let mut scratch_unknown = [0u64; 2048];
-    let mut out = [0u8; 1052436];
     let r = steps::run(
-        &text[0..n],
+        list,
         &mut arena_value,
         &mut arena_unknown,
         &mut scratch_value,
         &mut scratch_unknown,
-        &mut out,
+        out,
     );
-    let length = r.length;
-    if !io::write_all(STDOUT_FILENO, &out[0..length]) {
-        io::write_all(STDERR_FILENO, b"cones: standard output cannot be written\n");
+    r.length
+}
+
+// Runs the list that an input holds, and writes what the run says behind what the output holds.
+pub fn answer<R: Read, W: Write>(input: &mut R, output: &mut W) -> Result<(), Failure>
+    ensures wrote { OnOk result (IfSome (R.remaining input.old) (λ t.
+        Appends (W.contents output.old) (W.contents output.new) (written t))) }
+    ensures unread { IsErrOf result Failure.Input → output.new ≡ output.old }
+{
+    let mut text = room();
+    let Ok(n) = read_all(input, &mut text) else {
+        return Err(Failure::Input);
+    };
+    let mut out = [0u8; 1052436];
+    let length = told(&text[..n], &mut out);
+    let Ok(()) = output.write_all(&out[..length]) else {
+        return Err(Failure::Output);
+    };
+    Ok(())
+}
+
+fn main(rt: HostRuntime) -> io::Result<()> {
+    match answer(&mut rt.stdin(), &mut rt.stdout()) {
+        Ok(()) => Ok(()),
+        Err(Failure::Input) => eprintln!(rt; "cones: standard input cannot be read"),
+        Err(Failure::Output) => eprintln!(rt; "cones: standard output cannot be written"),
     }
 }

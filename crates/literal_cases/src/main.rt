@@ -8,7 +8,7 @@ use fourstate::literal::{
 };
 use fourstate::planes::word_count;
 use fourstate::value::{VectorAnswer, number};
-use libc::STDOUT_FILENO;
+use std::io;
 
 // Whether a literal is read into these planes, and written into this text as that one.
 fn goes_round(
@@ -66,110 +66,107 @@ fn is_refused(text: &[u8]) -> bool {
     }
 }
 
-fn write(text: &[u8]) {
-    io::write_all(STDOUT_FILENO, text);
-}
-
 // Writes whether a literal is read and written again as that one.
-fn case(text: &[u8], binary: &[u8]) {
-    write(text);
+fn case(rt: &impl Print, text: &[u8], binary: &[u8]) -> io::Result<()> {
+    rt.write_all(text)?;
     if agrees(text, binary) {
-        write(b" is ");
-        write(binary);
-        write(b"\n");
+        rt.write_all(b" is ")?;
+        rt.write_all(binary)?;
+        rt.write_all(b"\n")
     } else {
-        write(b" differs\n");
+        rt.write_all(b" differs\n")
     }
 }
 
 // Writes whether a text is refused.
-fn no_case(text: &[u8]) {
-    write(text);
+fn no_case(rt: &impl Print, text: &[u8]) -> io::Result<()> {
+    rt.write_all(text)?;
     if is_refused(text) {
-        write(b" is refused\n");
+        rt.write_all(b" is refused\n")
     } else {
-        write(b" is not refused\n");
+        rt.write_all(b" is not refused\n")
     }
 }
 
-fn unknown_digits() {
-    case(b"8'hzx", b"8'bzzzzxxxx");
-    case(b"8'HZX", b"8'bzzzzxxxx");
-    case(b"8'h?x", b"8'bzzzzxxxx");
-    case(b"7'o1z", b"7'b0001zzz");
-    case(b"16'h0xff", b"16'b0000xxxx11111111");
-    case(b"8'd?_", b"8'bzzzzzzzz");
+fn unknown_digits(rt: &impl Print) -> io::Result<()> {
+    case(rt, b"8'hzx", b"8'bzzzzxxxx")?;
+    case(rt, b"8'HZX", b"8'bzzzzxxxx")?;
+    case(rt, b"8'h?x", b"8'bzzzzxxxx")?;
+    case(rt, b"7'o1z", b"7'b0001zzz")?;
+    case(rt, b"16'h0xff", b"16'b0000xxxx11111111")?;
+    case(rt, b"8'd?_", b"8'bzzzzzzzz")
 }
 
-fn extended() {
-    case(b"12'hx5", b"12'bxxxxxxxx0101");
-    case(b"9'hx5", b"9'bxxxxx0101");
-    case(b"12'h0x", b"12'b00000000xxxx");
-    case(b"8'b0x", b"8'b0000000x");
-    case(b"8'sb1", b"8'sb00000001");
-    case(b"8'sh8", b"8'sb00001000");
+fn extended(rt: &impl Print) -> io::Result<()> {
+    case(rt, b"12'hx5", b"12'bxxxxxxxx0101")?;
+    case(rt, b"9'hx5", b"9'bxxxxx0101")?;
+    case(rt, b"12'h0x", b"12'b00000000xxxx")?;
+    case(rt, b"8'b0x", b"8'b0000000x")?;
+    case(rt, b"8'sb1", b"8'sb00000001")?;
+    case(rt, b"8'sh8", b"8'sb00001000")
 }
 
-fn cut() {
-    case(b"3'hx5", b"3'b101");
-    case(b"4'd17", b"4'b0001");
-    case(b"8'd256", b"8'b00000000");
-    case(b"1_6_'hf_f", b"16'b0000000011111111");
+fn cut(rt: &impl Print) -> io::Result<()> {
+    case(rt, b"3'hx5", b"3'b101")?;
+    case(rt, b"4'd17", b"4'b0001")?;
+    case(rt, b"8'd256", b"8'b00000000")?;
+    case(rt, b"1_6_'hf_f", b"16'b0000000011111111")?;
     case(
+        rt,
         b"65'd18446744073709551616",
         b"65'b10000000000000000000000000000000000000000000000000000000000000000",
-    );
+    )
 }
 
-fn parts_missing() {
-    no_case(b"");
-    no_case(b"8'");
-    no_case(b"8'h");
-    no_case(b"8's");
-    no_case(b"'hff");
-    no_case(b"'1");
-    no_case(b"12");
+fn parts_missing(rt: &impl Print) -> io::Result<()> {
+    no_case(rt, b"")?;
+    no_case(rt, b"8'")?;
+    no_case(rt, b"8'h")?;
+    no_case(rt, b"8's")?;
+    no_case(rt, b"'hff")?;
+    no_case(rt, b"'1")?;
+    no_case(rt, b"12")
 }
 
-fn wrong_sizes() {
-    no_case(b"0'b0");
-    no_case(b"00'b1");
-    no_case(b"08'hff");
-    no_case(b"4097'b0");
-    no_case(b"4_097'b0");
-    no_case(b"4294967304'hff");
-    no_case(b"-8'd1");
-    no_case(b"_8'h1");
+fn wrong_sizes(rt: &impl Print) -> io::Result<()> {
+    no_case(rt, b"0'b0")?;
+    no_case(rt, b"00'b1")?;
+    no_case(rt, b"08'hff")?;
+    no_case(rt, b"4097'b0")?;
+    no_case(rt, b"4_097'b0")?;
+    no_case(rt, b"4294967304'hff")?;
+    no_case(rt, b"-8'd1")?;
+    no_case(rt, b"_8'h1")
 }
 
-fn wrong_digits() {
-    no_case(b"8'b2");
-    no_case(b"8'o8");
-    no_case(b"8'hg");
-    no_case(b"8'da");
-    no_case(b"8'd-1");
-    no_case(b"8'dxx");
-    no_case(b"8'd1x");
-    no_case(b"8'dx0");
+fn wrong_digits(rt: &impl Print) -> io::Result<()> {
+    no_case(rt, b"8'b2")?;
+    no_case(rt, b"8'o8")?;
+    no_case(rt, b"8'hg")?;
+    no_case(rt, b"8'da")?;
+    no_case(rt, b"8'd-1")?;
+    no_case(rt, b"8'dxx")?;
+    no_case(rt, b"8'd1x")?;
+    no_case(rt, b"8'dx0")
 }
 
-fn wrong_between() {
-    no_case(b"8'h_f");
-    no_case(b"8'_h1");
-    no_case(b"8 'h1");
-    no_case(b"8'h 1");
-    no_case(b"8'h1\n");
-    no_case(b"8'ssb1");
-    no_case(b"8'bs1");
-    no_case(b"8''b1");
+fn wrong_between(rt: &impl Print) -> io::Result<()> {
+    no_case(rt, b"8'h_f")?;
+    no_case(rt, b"8'_h1")?;
+    no_case(rt, b"8 'h1")?;
+    no_case(rt, b"8'h 1")?;
+    no_case(rt, b"8'h1\n")?;
+    no_case(rt, b"8'ssb1")?;
+    no_case(rt, b"8'bs1")?;
+    no_case(rt, b"8''b1")
 }
 
-fn main() {
-    unknown_digits();
-    extended();
-    cut();
-    parts_missing();
-    wrong_sizes();
-    wrong_digits();
-    wrong_between();
+fn main(rt: HostRuntime) -> io::Result<()> {
+    unknown_digits(&rt)?;
+    extended(&rt)?;
+    cut(&rt)?;
+    parts_missing(&rt)?;
+    wrong_sizes(&rt)?;
+    wrong_digits(&rt)?;
+    wrong_between(&rt)
 }

@@ -1,3 +1,4 @@
 pub mod Text
 pub mod Fields
 pub mod Calls
+pub mod Report

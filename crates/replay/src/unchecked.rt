@@ -1,33 +1,35 @@
 // The readers of a table, and the report of what agrees.
-ghost use Rattle.std.specs.Prelude.{◌≡◌, ◌≤◌, max, length, nat_lt};
+ghost use Rattle.std.specs.Prelude.{◌≡◌, ◌≤◌, max, take, length, nat_lt, IfOk, OnOk, IfSome};
+ghost use Rattle.std.specs.Io.KnownBytes.{Appends};
 ghost use Rattle.words.specs.Planes.{lent_by};
 ghost use Rattle.replay.specs.Text.{Filled, place_from, field_text};
 ghost use Rattle.replay.specs.Fields.{field_of, reading, read_field, left_at, are_left};
 ghost use Rattle.replay.specs.Calls.{call_of};
+ghost use Rattle.replay.specs.Report.{table_in, table_told, line_told, total_told};
 
 use crate::parse::{
     bare, bits_of, decimal, fits, has, load, number_of, part, real, sizes_of, until, word,
 };
 use agreement::{Field, same_words};
-use libc::STDOUT_FILENO;
+use std::io;
+use std::io::{Read, Write};
+use stdin::read_all;
 use words::unchecked::least;
 
-// The table in a file, if it is shorter than the buffer, and else an empty one: how many bytes it has.
-pub fn table(path: &[u8], s: &mut [u8]) -> usize
-    ensures { Filled s.old s.new result }
+// The table in a file, if it is shorter than the buffer, and else an empty one: how many bytes it has. That it is too long is written out.
+pub fn table<R: Read, W: Write>(file: &mut R, s: &mut [u8], out: &mut W) -> io::Result<usize>
+    ensures filled { IfOk result (λ n. Filled s.old s.new n) }
+    ensures kept { length s.new ≡ length s.old }
+    ensures read { IfOk result (λ n. IfSome (R.remaining file.old) (λ t. take n s.new ≡ table_in (length s.old) t)) }
+    ensures wrote { OnOk result (IfSome (R.remaining file.old) (λ t.
+        Appends (W.contents out.old) (W.contents out.new) (table_told (length s.old) t))) }
 {
-    let fd = os::open_read(path);
-    if fd < 0 {
-        os::fail(path);
-        return 0;
-    }
-    let n = io::read_full(fd, s);
-    libc::close(fd);
+    let n = read_all(file, s)?;
     if n < s.len() {
-        return n;
+        return Ok(n);
     }
-    io::write_all(STDOUT_FILENO, b"the table is too long\n");
-    0
+    out.write_all(b"the table is too long\n")?;
+    Ok(0)
 }
 
 // Where the line ends that goes on at a place.
@@ -120,28 +122,28 @@ pub fn are_left(line: &[u8], out: usize, value: &[u64], unknown: &[u64]) -> bool
     same_words(unknown, &u)
 }
 
-// Writes a line if it differs, and else if it is to be shown; gives on whether it agrees.
-pub fn report(line: &[u8], agrees: bool, show: bool) -> bool
-    ensures { result ≡ agrees }
+// Writes a line out if it differs, and else if it is to be shown; gives on whether it agrees.
+pub fn report<W: Write>(line: &[u8], agrees: bool, show: bool, out: &mut W) -> io::Result<bool>
+    ensures value { IfOk result (λ r. r ≡ agrees) }
+    ensures wrote { OnOk result (Appends (W.contents out.old) (W.contents out.new) (line_told line.now agrees show)) }
 {
     if agrees && !show {
-        return true;
+        return Ok(true);
     }
     if !agrees {
-        io::write_all(STDOUT_FILENO, b"differs: ");
+        out.write_all(b"differs: ")?;
     }
-    io::write_all(STDOUT_FILENO, line);
-    io::write_all(STDOUT_FILENO, b"\n");
-    agrees
+    out.write_all(line)?;
+    out.write_all(b"\n")?;
+    Ok(agrees)
 }
 
-// Writes how many lines of a table agree; gives whether any does.
-pub fn total(path: &[u8], agreed: u64) -> bool
-    ensures { result ≡ nat_lt 0 agreed }
+// Writes out how many lines of a table agree; gives whether any does.
+pub fn total<W: Write>(path: &[u8], agreed: u64, out: &mut W) -> io::Result<bool>
+    ensures value { IfOk result (λ r. r ≡ nat_lt 0 agreed) }
+    ensures wrote { OnOk result (Appends (W.contents out.old) (W.contents out.new) (total_told path.now agreed)) }
 {
-    io::write_all(STDOUT_FILENO, path);
-    io::write_all(STDOUT_FILENO, b": ");
-    io::print_decimal(STDOUT_FILENO, agreed);
-    io::write_all(STDOUT_FILENO, b" agree\n");
-    0 < agreed
+    out.write_all(path)?;
+    writeln!(out, ": {agreed} agree")?;
+    Ok(0 < agreed)
 }

@@ -6,7 +6,7 @@ use agreement::same_words;
 use fourstate::steps::{Op, RunEnding, Step, run};
 use fourstate::store::{CellAnswer, Store};
 use fourstate::value::Header;
-use libc::STDOUT_FILENO;
+use std::io;
 
 // Whether the arenas hold the inputs 1x and 01, their and 0x, and x, the or-reduction of that, a word each.
 fn hold_case(av: &[u64], au: &[u64]) -> bool {
@@ -72,16 +72,15 @@ fn store_agrees() -> bool {
 }
 
 // Writes whether a case agrees.
-fn report(name: &[u8], agrees: bool) {
-    io::write_all(STDOUT_FILENO, name);
+fn report(rt: &impl Print, name: &str, agrees: bool) -> io::Result<()> {
     if agrees {
-        io::write_all(STDOUT_FILENO, b" agrees\n");
+        println!(rt; "{name} agrees")
     } else {
-        io::write_all(STDOUT_FILENO, b" differs\n");
+        println!(rt; "{name} differs")
     }
 }
 
-fn main() {
-    report(b"run", run_agrees());
-    report(b"store", store_agrees());
+fn main(rt: HostRuntime) -> io::Result<()> {
+    report(&rt, "run", run_agrees())?;
+    report(&rt, "store", store_agrees())
 }

@@ -1,35 +1,28 @@
-// Standard input, read to its end.
+// Input, read to its end into a buffer that the caller lends.
 #![tactic(auto)]
 
-ghost use Rattle.std.specs.Prelude.{◌≤◌, length};
+ghost use Rattle.std.specs.Prelude.{◌≡◌, ◌<◌, ◌≤◌, length, take, IfOk, IfSome};
+ghost use Rattle.std.specs.Io.KnownBytes.{Consumes, IsAtEnd};
 
-use libc::STDIN_FILENO;
+use std::io;
+use std::io::Read;
 
-// How much of the buffer was read; `failed` where a read failed.
-#[derive(Clone, Copy)]
-pub struct ReadCount {
-    pub failed: bool,
-    pub count: usize,
-}
-
-// Reads to the end of standard input, or until the buffer is full. What is read is free; it lies in the buffer.
-pub fn read_all(buf: &mut [u8]) -> ReadCount
-    ensures { result.count ≤ length buf.new }
+// Reads to the end of the input, or until the buffer is full, and gives how many bytes lie in the buffer. They are the input's next, where it
+// is known which these are; what standard input or a file gives is free. Where a read fails, its error comes back.
+pub fn read_all<R: Read>(input: &mut R, buf: &mut [u8]) -> io::Result<usize>
+    ensures count { IfOk result (λ n. n ≤ length buf.new) }
+    ensures front { IfOk result (λ n. IfSome (R.remaining input.old) (λ t. take n buf.new ≡ take (length buf.old) t)) }
+    ensures bytes { IfOk result (λ n. Consumes (R.remaining input.old) (R.remaining input.new) (take n buf.new)) }
+    ensures end { IfOk result (λ n. n < length buf.new → IsAtEnd (R.remaining input.new)) }
+    ensures kept { length buf.new ≡ length buf.old }
 {
     let mut done = 0;
     while done < buf.len() {
-        let got = libc::read(STDIN_FILENO, &mut buf[done..]);
-        let more = io::count(got, &buf[done..]);
+        let more = input.read(&mut buf[done..])?;
         if more == 0 {
-            return ReadCount {
-                failed: got < 0,
-                count: done,
-            };
+            return Ok(done);
         }
         done += more;
     }
-    ReadCount {
-        failed: false,
-        count: done,
-    }
+    Ok(done)
 }

@@ -9,6 +9,8 @@
 // rule and hands back no arm.
 #![tactic(auto)]
 
+ghost use Rattle.std.specs.Prelude.{◌≤◌, length, IfOk};
+
 mod answer_bits;
 mod arms;
 mod bits;
@@ -18,6 +20,10 @@ mod vectors;
 
 use agreement::Field;
 use replay::unchecked::{call_of, field, line_end, report, table, total};
+use std::fs::File;
+use std::io;
+use std::io::Write;
+use std::rt::Files;
 
 // Whether a call, by its number in `replay`, has the line's answer; its first operand is lent.
 fn has_answer(call: usize, line: &[u8], a: Field, value: &mut [u64], unknown: &mut [u64]) -> bool {
@@ -56,42 +62,59 @@ fn agrees(line: &[u8]) -> bool {
 }
 
 // Works the lines, and counts those that agree.
-fn count(s: &[u8], show: bool) -> u64 {
+fn count<W: Write>(s: &[u8], show: bool, out: &mut W) -> io::Result<u64> {
     let mut agreed = 0;
     let mut at = 0;
     while at < s.len() {
         let e = line_end(s, at);
         let line = &s[at..e];
-        if report(line, agrees(line), show) {
+        if report(line, agrees(line), show, out)? {
             agreed += 1;
         }
         if e == s.len() {
-            return agreed;
+            return Ok(agreed);
         }
         at = e + 1;
     }
-    agreed
+    Ok(agreed)
 }
 
-// Works a table and writes how many of its lines agree; gives whether any does.
-fn work(path: &[u8], show: bool) -> bool {
-    let mut s = io::large_buffer();
-    let n = table(path, &mut s);
-    total(path, count(&s[0..n], show))
-}
-
-// Works the cases, and then the reference's answers: where no case agrees, nothing can be told of these.
-fn work_both(worked: &[u8], answers: &[u8]) {
-    if work(worked, true) {
-        work(answers, false);
+// The table in a file of that name: how many bytes it has. Where the file cannot be opened, a line on standard error tells, and it has none.
+fn read(rt: &(impl Files + Print + Eprint), path: &str, s: &mut [u8]) -> io::Result<usize>
+    ensures { IfOk result (λ n. n ≤ length s.new) }
+{
+    match File::open(rt, path) {
+        Ok(mut file) => table(&mut file, s, &mut io::writer(rt)),
+        Err(e) => {
+            eprintln!(rt; "{path}: {e}")?;
+            Ok(0)
+        }
     }
 }
 
-fn main() {
-    work_both(b"worked/bits", b"answers/bits");
-    work_both(b"worked/constructors", b"answers/constructors");
-    work_both(b"worked/vectors", b"answers/vectors");
-    work_both(b"worked/answer_bits", b"answers/answer_bits");
-    work(b"worked/decisions", true);
-    work(b"worked/arms", true);
+// Works a table and writes how many of its lines agree; gives whether any does.
+fn work(rt: &(impl Files + Print + Eprint), path: &str, show: bool) -> io::Result<bool> {
+    let mut s = [0u8; 65536];
+    let n = read(rt, path, &mut s)?;
+    let mut out = io::writer(rt);
+    let agreed = count(&s[0..n], show, &mut out)?;
+    total(path.as_bytes(), agreed, &mut out)
+}
+
+// Works the cases, and then the reference's answers: where no case agrees, nothing can be told of these.
+fn work_both(rt: &(impl Files + Print + Eprint), worked: &str, answers: &str) -> io::Result<()> {
+    if work(rt, worked, true)? {
+        work(rt, answers, false)?;
+    }
+    Ok(())
+}
+
+fn main(rt: HostRuntime) -> io::Result<()> {
+    work_both(&rt, "worked/bits", "answers/bits")?;
+    work_both(&rt, "worked/constructors", "answers/constructors")?;
+    work_both(&rt, "worked/vectors", "answers/vectors")?;
+    work_both(&rt, "worked/answer_bits", "answers/answer_bits")?;
+    work(&rt, "worked/decisions", true)?;
+    work(&rt, "worked/arms", true)?;
+    Ok(())
 }
