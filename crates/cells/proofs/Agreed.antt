@@ -19,7 +19,7 @@ use Rattle.words.specs.Planes.{Planes}
 use Rattle.cells.specs.declared.Cell.{Cell}
 use Rattle.cells.specs.Cells.{cell_headers, cells_agree, word_behind, agree, check_cells}
 use Rattle.cells.proofs.Spans.{Fits, cells-within, cell-there}
-use Rattle.cells.proofs.Answers.{not-given}
+use Rattle.cells.proofs.Answered.{not-given}
 
 pub record Agreed (a : Planes) (cells : List Cell) (n : ℕ) : Type 0 where
   pub few : n ≤ 320

@@ -1,4 +1,4 @@
-pub mod Answers
+pub mod Answered
 pub mod Spans
 pub mod Tail
 pub mod Agreed

@@ -19,7 +19,7 @@ use Rattle.knownness.specs.Knownness.{AllSound}
 use Rattle.knownness.proofs.Machine.{headers-more}
 use Rattle.store.specs.Store.{State, Holds, room_of, appended, check_input}
 use Rattle.store.specs.Step.{memory}
-use Rattle.store.proofs.Answers.{check_header}
+use Rattle.store.proofs.Answered.{check_header}
 use Rattle.store.proofs.Held.{Added}
 use Rattle.store.proofs.Inputs.{input-check, input-holds}
 use Rattle.load.specs.Inputs.{add_listed, after_input, add_inputs}

@@ -32,7 +32,7 @@ use Rattle.cells.specs.Cells.{cell_words, cell_planes, cell_vector, cell_agrees,
 use Rattle.cells.specs.Places.{no_cell}
 use Rattle.store.specs.Store.{State, state, empty_store, filled, store_headers, next_word, agrees, check_store, put_cell, appended, room_of, Holds}
 use Rattle.store.specs.Step.{Memory}
-use Rattle.store.proofs.Answers.{vector-accepts}
+use Rattle.store.proofs.Answered.{vector-accepts}
 use Rattle.cells.proofs.Agreed.{Agreed, agree-facts, facts-agree, filled-fits}
 use Rattle.cells.proofs.Spans.{Fits, fits-cell, cells-snoc, span-before, span-behind, held, cells_same, Readable, fits_read}
 use Rattle.cells.proofs.Tail.{put-take, put-span, put-drop, put-length}

@@ -18,11 +18,11 @@ use Rattle.value.proofs.Checks.{Sound, vector-accepted}
 use Rattle.machine.specs.Machine as machine
 use Rattle.machine.specs.Machine.{check_input_behind, holding, headers_of, words_taken, check_count, check_room}
 use Rattle.cells.specs.Cells.{check_cells}
-use Rattle.cells.proofs.Answers.{after-given, count-few, room-left}
+use Rattle.cells.proofs.Answered.{after-given, count-few, room-left}
 use Rattle.cells.proofs.Agreed.{headers-count, next-within, cells-accepted}
 use Rattle.store.specs.Store.{State, store_headers, next_word, agrees, check_store, room_of, no_scratch, appended, check_input, add_input, Holds}
 use Rattle.store.specs.Step.{memory}
-use Rattle.store.proofs.Answers.{check_header, planes-header}
+use Rattle.store.proofs.Answered.{check_header, planes-header}
 use Rattle.store.proofs.Held.{state-agrees, held-count, holds-headers, Storable, storable-vector, append-holds, value-length, Added}
 
 record Accepted (s : State) (h : Header) (p : Planes) : Type 0 where

@@ -23,7 +23,7 @@ use Rattle.cells.specs.declared.Cell.{Cell}
 use Rattle.cells.specs.declared.Fields.{Fields}
 use Rattle.cells.specs.Cells.{cell_headers}
 use Rattle.cells.specs.Places.{Whole, cell_of, no_cell, no_fields}
-use Rattle.cells.proofs.Answers.{not-given}
+use Rattle.cells.proofs.Answered.{not-given}
 use Rattle.cells.proofs.Places.{put_fields, put-places}
 use Rattle.store.specs.declared.Store.{Store}
 use Rattle.store.specs.Store.{State, state, store_of, filled, next_word, agrees, cells_of, appended, no_scratch, check_input, add_input, Holds, with_cell}

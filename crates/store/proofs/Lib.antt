@@ -1,4 +1,4 @@
-pub mod Answers
+pub mod Answered
 pub mod Held
 pub mod Inputs
 pub mod Named

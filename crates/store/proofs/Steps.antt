@@ -28,7 +28,7 @@ use Rattle.machine.specs.Machine.{headers_of, header_at, words_taken, names, che
 use Rattle.cells.specs.declared.Cell.{Cell}
 use Rattle.cells.specs.Cells.{cell_planes, cell_vector, check_cells}
 use Rattle.cells.specs.Places.{no_cell}
-use Rattle.cells.proofs.Answers.{after-given, test-left, test-taken, count-few, room-left, scratch-left}
+use Rattle.cells.proofs.Answered.{after-given, test-left, test-taken, count-few, room-left, scratch-left}
 use Rattle.cells.proofs.Agreed.{headers-count, filled-fits, next-within, cells-accepted}
 use Rattle.cells.proofs.Spans.{Fits, fits_read}
 use Rattle.cells.proofs.Tail.{front-is}

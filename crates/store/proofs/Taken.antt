@@ -22,7 +22,7 @@ use Rattle.cells.specs.declared.Cell.{Cell}
 use Rattle.cells.specs.declared.Fields.{Fields}
 use Rattle.cells.specs.Cells.{cell_vector, cell_agrees, check_cells, put_planes}
 use Rattle.cells.specs.Places.{cell_of, no_cell}
-use Rattle.cells.proofs.Answers.{not-given, after-given, answer-given, answer-refused, count-few}
+use Rattle.cells.proofs.Answered.{not-given, after-given, answer-given, answer-refused, count-few}
 use Rattle.cells.proofs.Spans.{Fits, fits-cell}
 use Rattle.cells.proofs.Agreed.{headers-count, cells-accepted}
 use Rattle.cells.proofs.Places.{cell-among}

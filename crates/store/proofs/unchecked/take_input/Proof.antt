@@ -14,7 +14,7 @@ use Rattle.value.specs.Checks.{check_vector}
 use Rattle.value.proofs.Checks.{Sound, vector-accepted}
 use Rattle.machine.specs.Machine.{check_count, check_room, check_input_behind}
 use Rattle.cells.specs.Cells.{place_answer, put_planes}
-use Rattle.cells.proofs.Answers.{after-given, answer-given, answer-refused, room-left}
+use Rattle.cells.proofs.Answered.{after-given, answer-given, answer-refused, room-left}
 use Rattle.store.specs.Store.{room_of, no_scratch}
 use borrow.Author.Rules.{rules}
 use Rattle.store.proofs.unchecked.take_input.Statement.{statement}

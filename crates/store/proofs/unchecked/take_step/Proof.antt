@@ -13,7 +13,7 @@ use Rattle.value.specs.declared.Header.{Header}
 use Rattle.machine.specs.Machine.{words_taken, check_step}
 use Rattle.cells.specs.declared.Fields.{Fields}
 use Rattle.cells.specs.Places.{fields, header_of, places_of}
-use Rattle.cells.proofs.Answers.{answer-given, answer-refused}
+use Rattle.cells.proofs.Answered.{answer-given, answer-refused}
 use Rattle.cells.proofs.Agreed.{next-within}
 use Rattle.cells.proofs.Places.{headers-places}
 use Rattle.plan.specs.declared.PlannedStep.{PlannedStep}
