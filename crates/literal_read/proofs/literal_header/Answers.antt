@@ -7,9 +7,9 @@ use Rattle.literal_read.proofs.literal_header.Goals as goal
 pub returns-then-l-eq0 : goal.returns-then-l-eq0
 returns-then-l-eq0 c =
     let p = c.parts-l in
-    ap header_in (sym (no-literal c.args.text.now p.result c.if-l-eq0.true) ∙ p.ensures.0)
+    ap header_in (sym (no-literal c.args.text.now p.result c.if-l-eq0.true) ∙ p.ensures.result_value)
 
 pub returns : goal.returns
 returns c =
     let p = c.parts-l in
-    ap header_in (sym (a-literal c.args.text.now p.result c.if-l-eq0.false) ∙ p.ensures.0)
+    ap header_in (sym (a-literal c.args.text.now p.result c.if-l-eq0.false) ∙ p.ensures.result_value)

@@ -76,12 +76,12 @@ returns-5 c =
 returns-6 : tie.Need-returns
 returns-6 c =
     let f = sym c.is_value.ensures ∙ not-false _ c.if-not-is_value.false-raw in
-    let z = (one c.before.before.before.before.before.before).before.read-size.result in
+    let z = (one c.before.before.before.before.before.before).read_size-size.result in
     let t = s c.before.before.before.before.before.before in
     let i = place c.before.before.before.before.before.before in
     let e = base_read z.width (mark c.before.before.before.before.before.before) t i c.if-s-at.false (sym c.is_base.ensures ∙ not-false _ c.if-not-is_base.false-raw) f in
     let l : Literal = record { width = z.width; is_signed = mark c.before.before.before.before.before.before; base = get_or t i 0; value = i + 1 } in
-    (a-literal t l (one c.before.before.before.before.before.before).if1.left ∙ sym (signed c.before.before.before.before.before.before ∙ e), λ k. f)
+    (a-literal t l (one c.before.before.before.before.before.before).if-width-eq0.false ∙ sym (signed c.before.before.before.before.before.before ∙ e), λ k. f)
 
 pub parts_spec : {M : Type 1} → statement M
 parts_spec =

@@ -32,25 +32,25 @@ module _ (c : tie.After-check_output) where
   ended v e =
       let a = one.args in
       written-by a.text.now (vector_in a.text.now l) (lent a.ov.now a.ou.now) v
-      (sym one.parts-l.ensures.0 ∙ a-literal a.text.now l one.if-width-eq0.left) (sym e)
+      (sym one.parts-l.ensures.0 ∙ a-literal a.text.now l one.if-width-eq0.false) (sym e)
 
 fill-planes-requires : tie.Need-fill_planes-requires
 unfolding check_output
 fill-planes-requires c κs =
-    let o = one c.before.before.before.before in
+    let o = one c.before.before.before in
     let a = o.args in
-    let some = o.if-width-eq0.left in
+    let some = o.if-width-eq0.false in
     let l = exactly-accepted _ (lent a.ov.now a.ou.now) 5 (verdict-told c.check_output.ensures c.in-Accepted.is) in
     (o.parts-l.ensures.1 (omega arith), (omega arith, l.0, l.1))
 
 returns-2 : tie.Need-returns-in-Refused
 returns-2 c =
-    ended c.before.before.before _ (verdict-told c.check_output.ensures c.in-Refused.is)
+    ended c.before _ (verdict-told c.check_output.ensures c.in-Refused.is)
 
 returns-3 : tie.Need-returns-in-Accepted
 returns-3 c =
-    ap (outcome (given (sized (l c.before.before.before.before.before.before.before.before.before).width (l c.before.before.before.before.before.before.before.before.before).is_signed))) c.fill_planes.ensures
-    ∙ ended c.before.before.before.before.before.before.before.before.before _ (verdict-told c.check_output.ensures c.in-Accepted.is)
+    ap (outcome (given (sized (l c.before.before.before.before.before.before.before.before).width (l c.before.before.before.before.before.before.before.before).is_signed))) c.fill_planes.ensures
+    ∙ ended c.before.before.before.before.before.before.before.before _ (verdict-told c.check_output.ensures c.in-Accepted.is)
 
 pub read_literal_spec : {M : Type 1} → statement M
 read_literal_spec =

@@ -37,15 +37,15 @@ module _ (c : tie.Else-c-width-2 invariant-loop decreases-loop) where
   abbrev byte : tie.After-shared_slice_known-1 invariant-loop decreases-loop
   byte = c.before.before.before
 
-  range : let x = get_or (at byte).before.args.s.now (at byte).loop.i 0 in (48 ≤ x) × (x ≤ 57)
-  range = size-range (at byte).loop.width _ c.if-c-width-2.false
+  range : let x = get_or (at byte).args.s.now (at byte).loop-i.i 0 in (48 ≤ x) × (x ≤ 57)
+  range = size-range (at byte).loop-i.width _ c.if-c-width-2.false
 
 returns : tie.Need-returns-then-c-eq39 invariant-loop decreases-loop
 returns c = let l = at c.before in sym (turn c.before ∙ size-stops l.loop-i.width _ _ (eq-eqb _ 39 c.if-c-eq39.true))
 
 returns-2 : tie.Need-returns-then-c-width-2 invariant-loop decreases-loop
 returns-2 c =
-    sym (turn c.before.before.before ∙ size-other (at c.before.before.before).loop.width _ _ (ne_eqb _ 39 c.if-c-eq39.false) c.if-c-width.true c.if-c-width-2.true)
+    sym (turn c.before.before.before ∙ size-other (at c.before.before.before).loop-i.width _ _ (ne_eqb _ 39 c.if-c-eq39.false) c.if-c-width.true c.if-c-width-2.true)
 
 mul-width : tie.Need-overflow_mul-width invariant-loop decreases-loop
 mul-width c = omega arith
@@ -62,7 +62,7 @@ add-width c = omega (arith, (range c).0, (range c).1)
 returns-3 : tie.Need-returns-then-width-gt-MAX_SIZE invariant-loop decreases-loop
 returns-3 c =
     let b = byte c.before in
-    sym (turn b ∙ size-over (at b).loop.width _ _ (ne_eqb _ 39 c.if-c-eq39.false) c.if-c-width.true c.if-c-width-2.false c.if-width-gt-MAX_SIZE.true)
+    sym (turn b ∙ size-over (at b).loop-i.width _ _ (ne_eqb _ 39 c.if-c-eq39.false) c.if-c-width.true c.if-c-width-2.false c.if-width-gt-MAX_SIZE.true)
 
 loop-less : tie.Need-loop-i-smaller-else-width-gt-MAX_SIZE invariant-loop decreases-loop
 loop-less c = omega arith
@@ -70,14 +70,14 @@ loop-less c = omega arith
 loop-again : tie.Need-loop-i-preserved-else-width-gt-MAX_SIZE invariant-loop decreases-loop
 loop-again c =
     let b = byte c.before in
-    (c.if-width-gt-MAX_SIZE.false, turn b ∙ size-digit (at b).loop.width _ _ (ne_eqb _ 39 c.if-c-eq39.false) c.if-c-width.true c.if-c-width-2.false c.if-width-gt-MAX_SIZE.false)
+    (c.if-width-gt-MAX_SIZE.false, turn b ∙ size-digit (at b).loop-i.width _ _ (ne_eqb _ 39 c.if-c-eq39.false) c.if-c-width.true c.if-c-width-2.false c.if-width-gt-MAX_SIZE.false)
 
 loop-less-2 : tie.Need-loop-i-smaller invariant-loop decreases-loop
 loop-less-2 c = omega arith
 
 loop-again-2 : tie.Need-loop-i-preserved invariant-loop decreases-loop
 loop-again-2 c =
-    ((at c.before.before).loop.invariant.0, turn c.before.before ∙ size-underscore (at c.before.before).loop.width _ _ (ne_eqb _ 39 c.if-c-eq39.false) c.if-c-width.false)
+    ((at c.before.before).loop-i.invariant.0, turn c.before.before ∙ size-underscore (at c.before.before).loop-i.width _ _ (ne_eqb _ 39 c.if-c-eq39.false) c.if-c-width.false)
 
 returns-4 : tie.Need-returns invariant-loop decreases-loop
 returns-4 c =

@@ -1,6 +1,5 @@
 -- `literal_write::literal_length`: each refusal by the tests on the way.
 use mathlib.Core.Path.{◌≡◌, sym}
-use mathlib.Core.Logic.{⊎_elim}
 use Prim.Native.Nat.{◌≤◌, ◌<◌}
 use native.Mathlib.Omega.{arith}
 use borrow.Author.Tests.{lt-ltb, le-ltb, le-leb, lt-leb, eq-eqb, ne_eqb}
@@ -8,6 +7,7 @@ use lib.ListN.{length}
 use Rattle.literal_write.specs.Write.{base_text, check_header, check_size, literal_length}
 use Rattle.literal_write.proofs.Lengths.{length_taken}
 use Rattle.literal_write.proofs.literal_length.Goals as goal
+use Rattle.literal_write.proofs.literal_length.Goals.{then-h-2, else-h-2}
 
 pub returns-then-width-gt-MAX_WIDTH : goal.returns-then-width-gt-MAX_WIDTH
 unfolding literal_length check_header
@@ -35,14 +35,10 @@ returns-then-width-gt-MAX_SIZE c =
     let over : 4096 < w = omega arith in
     simp (le-ltb _ _ c.if-width-gt-MAX_WIDTH.false, c.if-h.false, le-leb _ _ some, lt-leb _ _ over)
 
-pub overflow_add-result : goal.overflow_add-result
-overflow_add-result c = ⊎_elim (λ w. omega arith) (λ w. omega arith) c.if-h-2.branch
-
-pub overflow_add-result-2 : goal.overflow_add-result-2
-overflow_add-result-2 c = ⊎_elim (λ w. omega arith) (λ w. omega arith) c.if-h-2.branch
-
 pub returns : goal.returns
 returns c =
     let h = c.args.h in
-    let base : c.if-h-2.base ≡ length (base_text h.is_signed) = ⊎_elim (λ w. rw w.0.taken w.1) (λ w. rw w.0.left w.1) c.if-h-2.branch in
+    let base : c.if-h-2.base ≡ length (base_text h.is_signed) =
+    elim c.if-h-2.branch [ then-h-2 w ↦ rw w.if-h-2.true w.base-is | else-h-2 w ↦ rw w.if-h-2.false w.base-is ]
+    in
     rw (c.digit_count.ensures.0, base) (sym (length_taken h c.if-h.false (omega arith) (omega arith)))

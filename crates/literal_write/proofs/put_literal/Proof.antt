@@ -27,13 +27,13 @@ put-number-requires c κs = omega (arith, room c.before.before.before.before)
 
 put-base-requires : tie.Need-put_base-j-requires
 put-base-requires c κs =
-    omega (arith, room c.before.before.before.before.before.before.before.before, place_of _ _ _ c.put_number-i.ensures, c.put_number-i.auto.0)
+    omega (arith, room c.before.before.before.before.before.before.before.before, place_of _ _ _ c.put_number-i.ensures, c.put_number-i.auto.out)
 
 put-bits-requires : tie.Need-put_bits-requires
 put-bits-requires c κs =
     let i = place_of _ _ _ c.put_number-i.ensures in
     let j = place_of _ _ _ c.put_base-j.ensures in
-    (omega (arith, room c.before.before.before.before.before.before.before.before.before.before.before.before, c.put_number-i.auto.0, c.put_base-j.auto.0), c.requires.0)
+    (omega (arith, room c.before.before.before.before.before.before.before.before.before.before.before.before, c.put_number-i.auto.out, c.put_base-j.auto.text), c.requires.0)
 
 returns : tie.Need-returns
 returns c =

@@ -40,13 +40,13 @@ module _ (l : tie.After-literal_length) where
 
 returns : tie.Need-returns-then-text-n
 returns c =
-    sym (answered c.before.before.before.before c.in-Length.is ∙ rw (ne_eqb _ _ c.if-text-n.true))
+    sym (answered c.before.before c.in-Length.is ∙ rw (ne_eqb _ _ c.if-text-n.true))
 
 put-literal-requires : tie.Need-put_literal-requires
 unfolding literal_text
 put-literal-requires c κs =
-    let k = (vector-accepted (header c.before.before.before.before.before) (planes c.before.before.before.before.before) (accepted c.before.before.before.before.before)).planes in
-    ((k.value-plane.count, k.unknown-plane.count), c.if-text-n.false ∙ sym (length-given (header c.before.before.before.before.before) (planes c.before.before.before.before.before) _ (told c.before.before.before.before.before c.in-Length.is)))
+    let k = (vector-accepted (header c.before.before.before) (planes c.before.before.before) (accepted c.before.before.before)).planes in
+    ((k.value-plane.count, k.unknown-plane.count), c.if-text-n.false ∙ sym (length-given (header c.before.before.before) (planes c.before.before.before) _ (told c.before.before.before c.in-Length.is)))
 
 returns-2 : tie.Need-returns-in-Refused
 unfolding write_literal
@@ -55,13 +55,13 @@ returns-2 c =
 
 returns-3 : tie.Need-returns-in-Refused-literal_length
 returns-3 c =
-    sym (answered c.before.before.before c.in-Refused-literal_length.is)
+    sym (answered c.before c.in-Refused-literal_length.is)
 
 returns-4 : tie.Need-returns-else-text-n
 unfolding literal_text
 returns-4 c =
-    ap (outcome (given tt)) {y = literal_text (vector (header c.before.before.before.before.before.before.before.before) (planes c.before.before.before.before.before.before.before.before))} c.put_literal.ensures
-    ∙ sym (answered c.before.before.before.before.before.before.before.before c.in-Length.is ∙ rw (eq-eqb _ _ c.if-text-n.false))
+    ap (outcome (given tt)) {y = literal_text (vector (header c.before.before.before.before.before.before) (planes c.before.before.before.before.before.before))} c.put_literal.ensures
+    ∙ sym (answered c.before.before.before.before.before.before c.in-Length.is ∙ rw (eq-eqb _ _ c.if-text-n.false))
 
 pub write_literal_spec : {M : Type 1} → statement M
 write_literal_spec =

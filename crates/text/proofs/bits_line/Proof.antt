@@ -52,10 +52,10 @@ no_bits zero = refl
 no_bits (suc n) = refl
 
 abbrev invariant-loop : tie.invariant-loop-left
-invariant-loop s at key n i₀ left₀ t8 i left = (bs : List LogicBit) × (many bit n (drop i₀ s) ≡ behind bs (many bit left (drop i s)))
+invariant-loop s at key n i₀ left₀ i left = (bs : List LogicBit) × (many bit n (drop i₀ s) ≡ behind bs (many bit left (drop i s)))
 
 abbrev decreases-loop : tie.decreases-loop-left
-decreases-loop s at key n i₀ left₀ t8 i left = left
+decreases-loop s at key n i₀ left₀ i left = left
 
 loop-holds : tie.Need-loop-left-init invariant-loop decreases-loop
 loop-holds c = ([], behind-none _)
@@ -128,5 +128,4 @@ bits_line_spec =
     loop-again
     returns
     (λ c. search rules)
-    (λ c κs. search rules)
     returns-2)

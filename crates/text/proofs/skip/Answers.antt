@@ -1,6 +1,5 @@
 -- `text::skip`: what is left of the key, at the place reached, reads as the whole key does.
 use mathlib.Core.Path.{refl, ◌∙◌}
-use Prim.Native.Nat.{◌-◌}
 use native.Mathlib.Omega.{arith}
 use Rattle.text.proofs.Places.{begins, begins-end}
 use Rattle.text.proofs.Turns.{key-done, key-ends, key-same, key-other}

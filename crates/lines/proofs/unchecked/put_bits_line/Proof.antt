@@ -16,10 +16,10 @@ put-bytes-requires c κs = search rules
 
 put-bits-requires : tie.Need-put_bits-end-requires
 put-bits-requires c κs =
-    (omega (arith, c.requires.0, place_of _ _ _ c.put_bytes-i.ensures, c.put_bytes-i.auto.0), c.requires.1)
+    (omega (arith, c.requires.0, place_of _ _ _ c.put_bytes-i.ensures, c.put_bytes-i.auto.out), c.requires.1)
 
 -- there is room for LF
-room : (v : tie.After-put_bits-end) → v.put_bits-end.result < length v.put_bits-end.new.0
+room : (v : tie.After-put_bits-end) → v.put_bits-end.result < length v.put_bits-end.new.out
 room v =
     let a = v.args in
     let bs = from_planes a.width a.value.now a.unknown.now in
@@ -27,11 +27,11 @@ room v =
       arith,
       v.requires.0,
       place_of _ _ _ v.put_bytes-i.ensures,
-      v.put_bytes-i.auto.0,
+      v.put_bytes-i.auto.out,
       place_of _ _ _ v.put_bits-end.ensures,
       length-bits bs,
       length-planes a.width a.value.now a.unknown.now,
-      v.put_bits-end.auto.0,
+      v.put_bits-end.auto.out,
     )
 
 slice-write-out : tie.Need-bounds-out-end
@@ -42,7 +42,7 @@ add-result c = omega (arith, room c.before.before)
 
 same_length : tie.Need-shape_of-out
 same_length c =
-    simp length-set (c.put_bits-end.auto.0 ∙ c.put_bytes-i.auto.0)
+    simp length-set (c.put_bits-end.auto.out ∙ c.put_bytes-i.auto.out)
 
 returns : tie.Need-returns
 unfolding bits_text
@@ -50,7 +50,7 @@ returns c =
     let a = c.args in
     let bs = from_planes a.width a.value.now a.unknown.now in
     three a.out.now a.at a.key.now (bit_digits bs) line_end c.put_bytes-i.ensures c.put_bits-end.ensures
-    (put_byte c.put_bits-end.new.0 c.put_bits-end.result 10 (room c.before.before)) (omega (arith, c.requires.0))
+    (put_byte c.put_bits-end.new.out c.put_bits-end.result 10 (room c.before.before)) (omega (arith, c.requires.0))
 
 pub put_bits_line_spec : {M : Type 1} → statement M
 put_bits_line_spec =

@@ -16,10 +16,10 @@ put-bytes-requires c κs =
 put-number-requires : tie.Need-put_number-j-requires
 put-number-requires c κs =
     let a = c.args in
-    omega (arith, length-line a.key.now a.n, c.requires, place_of _ _ _ c.put_bytes-i.ensures, c.put_bytes-i.auto.0)
+    omega (arith, length-line a.key.now a.n, c.requires, place_of _ _ _ c.put_bytes-i.ensures, c.put_bytes-i.auto.out)
 
 -- there is room for LF
-room : (v : tie.After-put_number-j) → v.put_number-j.result < length v.put_number-j.new.0
+room : (v : tie.After-put_number-j) → v.put_number-j.result < length v.put_number-j.new.out
 room v =
     let a = v.args in
     omega (
@@ -27,9 +27,9 @@ room v =
       length-line a.key.now a.n,
       v.requires,
       place_of _ _ _ v.put_bytes-i.ensures,
-      v.put_bytes-i.auto.0,
+      v.put_bytes-i.auto.out,
       place_of _ _ _ v.put_number-j.ensures,
-      v.put_number-j.auto.0,
+      v.put_number-j.auto.out,
     )
 
 slice-write-out : tie.Need-bounds-out-j
@@ -40,14 +40,14 @@ add-result c = omega (arith, room c.before.before)
 
 same_length : tie.Need-shape_of-out
 same_length c =
-    simp length-set (c.put_number-j.auto.0 ∙ c.put_bytes-i.auto.0)
+    simp length-set (c.put_number-j.auto.out ∙ c.put_bytes-i.auto.out)
 
 returns : tie.Need-returns
 unfolding number_text
 returns c =
     let a = c.args in
     three a.out.now a.at a.key.now (decimal a.n) line_end c.put_bytes-i.ensures c.put_number-j.ensures
-    (put_byte c.put_number-j.new.0 c.put_number-j.result 10 (room c.before.before)) (omega (arith, c.requires))
+    (put_byte c.put_number-j.new.out c.put_number-j.result 10 (room c.before.before)) (omega (arith, c.requires))
 
 pub put_number_line_spec : {M : Type 1} → statement M
 put_number_line_spec =

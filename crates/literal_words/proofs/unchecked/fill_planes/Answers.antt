@@ -15,7 +15,11 @@ bounds-s-from c =
 
 pub take_digits-requires : goal.take_digits-requires
 take_digits-requires c =
-    rw c.radix-r.ensures (radix-range c.args.base, value-readable c.args.base _ c.requires.s_value)
+    rw c.radix-r.ensures
+    (record {
+      le_r = radix-range c.args.base;
+      s_value = value-readable c.args.base _ c.requires.s_value;
+    })
 
 pub returns : goal.returns
 unfolding tabulate

@@ -1,7 +1,7 @@
 -- `literal_words::unchecked::take_digits`: each plane holds a number that goes on with the rest of the text to what all of it gives.
 use mathlib.Core.Path.{◌≡◌, refl, sym, ap, ◌∙◌}
 use mathlib.Core.List.{List, []}
-use Prim.Native.Nat.{ℕ, ◌+◌, ◌-◌, ◌*◌}
+use Prim.Native.Nat.{ℕ, ◌+◌, ◌*◌}
 use lib.ListN.{length, drop_of_length-le}
 use Rattle.literal_words.specs.Digits.{digits, number_by}
 use Rattle.literal_words.specs.Passes.{words_of, Taken, Goes}
@@ -37,8 +37,8 @@ loop-i-preserved c =
     let k = d.ensures in
     record {
       rest = k.rest;
-      to_value = chunk d.result.power d.result.value h.to_value k.to_value c.times_plus.ensures c.value-1.given;
-      to_unknown = chunk d.result.power d.result.unknown h.to_unknown k.to_unknown c.times_plus-in-loop-i.ensures c.unknown-1.given;
+      to_value = chunk d.result.power d.result.value h.to_value k.to_value c.times_plus.ensures c.times_plus.auto.plane;
+      to_unknown = chunk d.result.power d.result.unknown h.to_unknown k.to_unknown c.times_plus-in-loop-i.ensures c.times_plus-in-loop-i.auto.plane;
     }
 
 pub returns : goal.returns

@@ -1,8 +1,7 @@
 -- `text::unchecked::one_of`: the lines that were not tried yet, at the place reached, give what all of them do.
 use mathlib.Core.Path.{◌≡◌}
-use mathlib.Core.Logic.{⊎_elim}
 use mathlib.Core.List.{List, ◌∷◌}
-use Prim.Native.Nat.{ℕ, ◌+◌, ◌-◌, ◌≤◌}
+use Prim.Native.Nat.{ℕ, ◌+◌, ◌≤◌}
 use native.Mathlib.Omega.{arith}
 use lib.ListN.{length, drop, get_or}
 use Rattle.text.specs.Read.{broken, key}
@@ -10,6 +9,7 @@ use Rattle.text.proofs.Names.{Tried, tried-first, tried-all, tried-found, tried_
 use Rattle.text.proofs.Places.{begins}
 use Rattle.text.proofs.Turns.{key-ends, key-other}
 use Rattle.text.proofs.unchecked.one_of.Goals as goal
+use Rattle.text.proofs.unchecked.one_of.Goals.{then-i-s+then-s-i+else-c-eq10, then-i-s+else-s-i, else-i-s}
 
 pub loop-j-init : goal.loop-j-init
 loop-j-init c = (omega arith, tried-first c.args.s.now c.args.lines.now c.args.at)
@@ -48,13 +48,11 @@ loop-j-preserved-then-c-eq10-2 c =
     λ off. tried-next s a.lines.now a.at _ _ c.loop-j.i c.loop-j.invariant.1 (omega arith) off c.if-c-eq10-2.true
     in (
       omega arith,
-      ⊎_elim
-          (λ t. absurd (t.3.left c.if-c-eq10-2.true))
-          (λ u. ⊎_elim
-          (λ t. next (λ k. key-other s (x ∷ k) c.loop-j.i 0 (omega arith) t.0.taken t.2.left))
-          (λ t. next (λ k. key-ends s (x ∷ k) c.loop-j.i 0 (omega arith) t.0.left))
-          u)
-          c.if-i-s.branch,
+      elim c.if-i-s.branch [
+        | then-i-s+then-s-i+else-c-eq10 w ↦ absurd (w.if-c-eq10.false c.if-c-eq10-2.true)
+        | then-i-s+else-s-i w ↦ next (λ k. key-other s (x ∷ k) c.loop-j.i 0 (omega arith) w.if-i-s.true w.if-s-i.false)
+        | else-i-s w ↦ next (λ k. key-ends s (x ∷ k) c.loop-j.i 0 (omega arith) w.if-i-s.false)
+      ],
     )
 
 pub loop-j-smaller : goal.loop-j-smaller
@@ -70,13 +68,11 @@ loop-j-preserved c =
     λ off e. tried_other s a.lines.now a.at _ _ c.loop-j.i c.loop-j.invariant.1 (omega arith) off c.if-i-s.i e c.if-c-eq10-2.false
     in (
       omega arith,
-      ⊎_elim
-          (λ t. rw t.4 (tried_same s a.lines.now a.at _ _ c.loop-j.i c.loop-j.invariant.1 (omega arith) t.0.taken t.2.taken c.if-c-eq10-2.false))
-          (λ u. ⊎_elim
-          (λ t. other (λ k. key-other s (x ∷ k) c.loop-j.i 0 (omega arith) t.0.taken t.2.left) (omega (arith, t.3)))
-          (λ t. other (λ k. key-ends s (x ∷ k) c.loop-j.i 0 (omega arith) t.0.left) (omega (arith, t.0.left, t.1)))
-          u)
-          c.if-i-s.branch,
+      elim c.if-i-s.branch [
+        | then-i-s+then-s-i+else-c-eq10 w ↦ rw w.i-is (tried_same s a.lines.now a.at _ _ c.loop-j.i c.loop-j.invariant.1 (omega arith) w.if-i-s.true w.if-s-i.true c.if-c-eq10-2.false)
+        | then-i-s+else-s-i w ↦ other (λ k. key-other s (x ∷ k) c.loop-j.i 0 (omega arith) w.if-i-s.true w.if-s-i.false) (omega arith)
+        | else-i-s w ↦ other (λ k. key-ends s (x ∷ k) c.loop-j.i 0 (omega arith) w.if-i-s.false) (omega arith)
+      ],
     )
 
 pub returns : goal.returns

@@ -22,7 +22,7 @@ decreases-loop s from n value₀ unknown₀ j₀ value unknown j = n - j
 
 -- the character that is read in a turn
 abbrev byte : tie.At-loop-j invariant-loop decreases-loop → ℕ
-byte l = let a = l.before.args in get_or a.s.now (a.from + l.loop.j) 0
+byte l = let a = l.args in get_or a.s.now (a.from + l.loop-j.j) 0
 
 loop-holds : tie.Need-loop-j-init invariant-loop decreases-loop
 loop-holds c = (omega arith, none value_digit _ _, none unknown_digit _ _)
@@ -30,21 +30,21 @@ loop-holds c = (omega arith, none value_digit _ _, none unknown_digit _ _)
 -- there is room for one more digit
 room : (d : LogicBit → ℕ) → ((b : LogicBit) → d b < 2) → (l : tie.At-loop-j invariant-loop decreases-loop) → l.loop-j.j ≤ 63
     → number_in d l.args.s.now l.args.from l.loop-j.j < 2 ^ 63
-room d lt l h = small d lt l.before.args.s.now l.before.args.from l.loop.j h
+room d lt l h = small d lt l.args.s.now l.args.from l.loop-j.j h
 
 mul-value : tie.Need-overflow_mul-value invariant-loop decreases-loop
 mul-value c = omega (arith, room value_digit value-digit-lt c.before.before (omega arith))
 
 add-value : tie.Need-overflow_add-value invariant-loop decreases-loop
 add-value c =
-    omega (arith, room value_digit value-digit-lt c (omega arith), byte-value (byte c.before.before), value-digit-lt (of_byte (byte c.before.before)))
+    omega (arith, room value_digit value-digit-lt c.before.before (omega arith), byte-value (byte c.before.before), value-digit-lt (of_byte (byte c.before.before)))
 
 mul-unknown : tie.Need-overflow_mul-unknown invariant-loop decreases-loop
 mul-unknown c = omega (arith, room unknown_digit unknown-digit-lt c.before.before (omega arith))
 
 add-unknown : tie.Need-overflow_add-unknown invariant-loop decreases-loop
 add-unknown c =
-    omega (arith, room unknown_digit unknown-digit-lt c (omega arith), byte-unknown (byte c.before.before), unknown-digit-lt (of_byte (byte c.before.before)))
+    omega (arith, room unknown_digit unknown-digit-lt c.before.before (omega arith), byte-unknown (byte c.before.before), unknown-digit-lt (of_byte (byte c.before.before)))
 
 loop-again : tie.Need-loop-j-preserved invariant-loop decreases-loop
 loop-again c =
