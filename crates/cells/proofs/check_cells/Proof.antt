@@ -72,8 +72,8 @@ cell-agrees-requires c κs = search rules
 returns-2 : tie.Need-returns-then-not-cell_agrees invariant-loop decreases-loop
 returns-2 c =
     let t = st c.before in
-    cell-wrong (arenas t) t.args.cells t.args.count (counted t) (l c.before).loop.invariant.0 (l c.before).loop.invariant.1
-    (left-wrong (arenas t) t.args.cells t.args.count (l c.before).loop.i (l c.before).loop.at (whole c.before) (l c.before).loop.invariant.4 no_cell c.loop-i-test.true
+    cell-wrong (arenas t) t.args.cells t.args.count (counted t) (l c.before).loop-i.invariant.0 (l c.before).loop-i.invariant.1
+    (left-wrong (arenas t) t.args.cells t.args.count (l c.before).loop-i.i (l c.before).loop-i.at (whole c.before) (l c.before).loop-i.invariant.4 no_cell c.loop-i-test.true
     (told c.before false (not-true _ c.if-not-cell_agrees.true-raw)))
 
 word-count-requires : tie.Need-word_count-at-requires invariant-loop decreases-loop
@@ -81,7 +81,7 @@ word-count-requires c κs = search rules
 
 add_at : tie.Need-overflow_add-at invariant-loop decreases-loop
 add_at c =
-    let f = cell-fits (arenas (st c.before.before.before)) (l c.before.before.before).loop.at (cell c.before.before.before) (told c.before.before.before true (not-false _ c.if-not-cell_agrees.false-raw)) in
+    let f = cell-fits (arenas (st c.before.before.before)) (l c.before.before.before).loop-i.at (cell c.before.before.before) (told c.before.before.before true (not-false _ c.if-not-cell_agrees.false-raw)) in
     omega (arith, f.begins, f.within, c.word_count-at.ensures)
 
 add-i : tie.Need-overflow_add-i invariant-loop decreases-loop
@@ -94,13 +94,13 @@ loop-again : tie.Need-loop-i-preserved invariant-loop decreases-loop
 loop-again c =
     let t = st c.before.before.before in
     let e = told c.before.before.before true (not-false _ c.if-not-cell_agrees.false-raw) in
-    let f = cell-fits (arenas t) (l c.before.before.before).loop.at (cell c.before.before.before) e in (
-      (l c.before.before.before).loop.invariant.0,
-      (l c.before.before.before).loop.invariant.1,
+    let f = cell-fits (arenas t) (l c.before.before.before).loop-i.at (cell c.before.before.before) e in (
+      (l c.before.before.before).loop-i.invariant.0,
+      (l c.before.before.before).loop-i.invariant.1,
       search rules,
       omega (arith, f.begins, f.within, c.word_count-at.ensures),
-      left-more (arenas t) t.args.cells t.args.count (l c.before.before.before).loop.i (l c.before.before.before).loop.at (whole c.before.before.before) (l c.before.before.before).loop.invariant.4 no_cell
-          c.loop-i-test.true e ((l c.before.before.before).loop.at + c.word_count-at.result) (omega (arith, c.word_count-at.ensures)),
+      left-more (arenas t) t.args.cells t.args.count (l c.before.before.before).loop-i.i (l c.before.before.before).loop-i.at (whole c.before.before.before) (l c.before.before.before).loop-i.invariant.4 no_cell
+          c.loop-i-test.true e ((l c.before.before.before).loop-i.at + c.word_count-at.result) (omega (arith, c.word_count-at.ensures)),
     )
 
 -- every cell agrees

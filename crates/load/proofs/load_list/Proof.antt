@@ -46,7 +46,7 @@ none a f e = (ap (λ (s : Store). state s a) (ap (store_of 0) e ∙ sym store-em
 
 load-inputs-requires : tie.Need-load_inputs-inputs-requires
 load-inputs-requires c κs =
-    let t = text c.before.before.before.before.before in
+    let t = text c.before.before.before.before in
     let r = c.read_list-a.result in
     let e = c.read_list-a.ensures in
     let ok = c.in-Accepted.is in
@@ -56,16 +56,16 @@ load-inputs-requires c κs =
 returns : tie.Need-returns-in-Refused
 returns c =
     let r = c.known_told-1.given in
-    let n = none (arenas c.before.before.before.before.before) c.no_fields-none.result c.no_fields-none.ensures in
-    let e : refused (refusal_number r.0.0) ≡ whole (text c.before.before.before.before.before) = told c.before.before.before.before.before (Refused r.0.0) r.1 in (
-      ap (outcome (refused (refusal_number r.0.0))) n.0 ∙ ap (load_list (state empty_store (arenas c.before.before.before.before.before))) e,
+    let n = none (arenas c.before.before.before) c.no_fields-none.result c.no_fields-none.ensures in
+    let e : refused (refusal_number r.0.0) ≡ whole (text c.before.before.before) = told c.before.before.before (Refused r.0.0) r.1 in (
+      ap (outcome (refused (refusal_number r.0.0))) n.0 ∙ ap (load_list (state empty_store (arenas c.before.before.before))) e,
       (refl, n.1),
     )
 
 returns-2 : tie.Need-returns-in-Accepted
 returns-2 c =
-    let e : given (list c.before.before.before.before.before.before.before.before.before.before) ≡ whole (text c.before.before.before.before.before.before.before.before.before.before) = told c.before.before.before.before.before.before.before.before.before.before Accepted c.in-Accepted.is in (
-      c.load_inputs-inputs.ensures.0 ∙ ap (load_list (state empty_store (arenas c.before.before.before.before.before.before.before.before.before.before))) e,
+    let e : given (list c.before.before.before.before.before.before.before.before.before) ≡ whole (text c.before.before.before.before.before.before.before.before.before) = told c.before.before.before.before.before.before.before.before.before Accepted c.in-Accepted.is in (
+      c.load_inputs-inputs.ensures.0 ∙ ap (load_list (state empty_store (arenas c.before.before.before.before.before.before.before.before.before))) e,
       (ap (after (verdict c.load_inputs-inputs.result.verdict)) (sym e), c.load_inputs-inputs.ensures.1),
     )
 

@@ -49,7 +49,7 @@ module _ (k : tie.After-load_list-l) where
   loaded = k.load_list-l.result
 
   abbrev arenas : Planes
-  arenas = lent k.load_list-l.new.1.0 k.load_list-l.new.1.1.0
+  arenas = lent k.load_list-l.new.au.0 k.load_list-l.new.au.1.0
 
   abbrev left : State
   left = state (store_of loaded.inputs.count loaded.inputs.fields) arenas
@@ -60,7 +60,7 @@ module _ (k : tie.After-load_list-l) where
 -- every input is accepted
 module _ (a : tie.In-Accepted) where
   abbrev l : tie.After-load_list-l
-  l = a.before.before.before.before.before.before.before
+  l = a.before.before.before.before.before.before
 
   listed : whole (text l) ≡ given (list_in (text l) (loaded l).list)
   listed =
@@ -76,14 +76,14 @@ put-refused-requires c κs =
 
 run-steps-requires : tie.Need-run_steps-p-requires
 run-steps-requires c κs =
-    ((few c.before.before.before.before.before.before, search rules), (l c.before.before.before.before.before.before).load-list.ensures.1.1)
+    ((few c.before.before.before.before.before.before, search rules), (l c.before.before.before.before.before.before).load_list-l.ensures.1.1)
 
 returns : tie.Need-returns-in-Refused
 returns c =
     let r = c.known_told-1.given in
-    ap₂ (λ (z : Store) (o : Buffer). final (memory (state z (arenas c.before.before.before.before.before.before.before.before.before.before.before.before.before.before.before.before.before)) (scratch c.before.before.before.before.before.before.before.before.before.before.before.before.before.before.before.before.before)) o (RefusedAt (refusal_number r.0.0) 0)) c.store_of.ensures
-    (c.put_refused.ensures ∙ ap (λ (i : ℕ). put (out c.before.before.before.before.before.before.before.before.before.before.before.before.before.before.before.before.before) (refused_text i 0)) c.number-n.ensures)
-    ∙ ap (λ (x : Ran). final_of x (out c.before.before.before.before.before.before.before.before.before.before.before.before.before.before.before.before.before)) (refused-load (empty c.before.before.before.before.before.before.before.before.before.before.before.before.before.before.before.before.before) (left c.before.before.before.before.before.before.before.before.before.before.before.before.before.before.before.before.before) (scratch c.before.before.before.before.before.before.before.before.before.before.before.before.before.before.before.before.before) (whole (text c.before.before.before.before.before.before.before.before.before.before.before.before.before.before.before.before.before)) (refusal_number r.0.0) (told c.before.before.before.before.before.before.before.before.before.before.before.before.before.before.before.before.before (Refused r.0.0) r.1))
+    ap₂ (λ (z : Store) (o : Buffer). final (memory (state z (arenas c.before.before.before.before.before.before.before.before.before.before.before.before.before.before.before)) (scratch c.before.before.before.before.before.before.before.before.before.before.before.before.before.before.before)) o (RefusedAt (refusal_number r.0.0) 0)) c.store_of.ensures
+    (c.put_refused.ensures ∙ ap (λ (i : ℕ). put (out c.before.before.before.before.before.before.before.before.before.before.before.before.before.before.before) (refused_text i 0)) c.number-n.ensures)
+    ∙ ap (λ (x : Ran). final_of x (out c.before.before.before.before.before.before.before.before.before.before.before.before.before.before.before)) (refused-load (empty c.before.before.before.before.before.before.before.before.before.before.before.before.before.before.before) (left c.before.before.before.before.before.before.before.before.before.before.before.before.before.before.before) (scratch c.before.before.before.before.before.before.before.before.before.before.before.before.before.before.before) (whole (text c.before.before.before.before.before.before.before.before.before.before.before.before.before.before.before)) (refusal_number r.0.0) (told c.before.before.before.before.before.before.before.before.before.before.before.before.before.before.before (Refused r.0.0) r.1))
 
 -- the steps are run
 abbrev ran : tie.After-store_of-in-Accepted → tie.After-run_steps-p
@@ -93,13 +93,13 @@ same-length-3 : tie.Need-shape_of-av-in-Accepted
 same-length-3 c =
     let r = ran c in
     let a = r.before.before.before.before.before.before in
-    r.run-steps.kept.1.1.0 ∙ (l a).load-list.kept.1.0
+    r.run-steps.kept.1.1.0 ∙ (l a).load_list-l.kept.1.0
 
 same-length-4 : tie.Need-shape_of-au-in-Accepted
 same-length-4 c =
     let r = ran c in
     let a = r.before.before.before.before.before.before in
-    r.run-steps.kept.1.1.1.0 ∙ (l a).load-list.kept.1.1.0
+    r.run-steps.kept.1.1.1.0 ∙ (l a).load_list-l.kept.1.1.0
 
 returns-2 : tie.Need-returns-in-Accepted
 returns-2 c =

@@ -68,10 +68,10 @@ returns c =
     outside (arenas c.before) (start c.before).args.at c.word_count.result (start c.before).args.c c.word_count.ensures (start c.before).requires.0 _ _ refl refl c.if-c-at.true
 
 returns-2 : tie.Need-returns-in-Refused
-returns-2 c = by-verdict c.before.before _ c.in-Refused.is
+returns-2 c = by-verdict c.before _ c.in-Refused.is
 
 returns-3 : tie.Need-returns-in-Accepted
-returns-3 c = by-verdict c.before.before _ c.in-Accepted.is
+returns-3 c = by-verdict c.before _ c.in-Accepted.is
 
 pub cell_agrees_spec : {M : Type 1} → statement M
 cell_agrees_spec =

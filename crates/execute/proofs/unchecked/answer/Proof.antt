@@ -34,7 +34,7 @@ everywhere {b = b} e = low e ∙ packed-bit (λ j. b) 0 (omega arith)
 
 returns : tie.Need-returns-in-ReduceAnd
 returns c =
-    everywhere c.filled.ensures ∙ c.and_bits.ensures ∙ told c.before.before.before.before _ c.in-ReduceAnd.is
+    everywhere c.filled.ensures ∙ c.and_bits.ensures ∙ told c.before.before.before _ c.in-ReduceAnd.is
 
 returns-2 : tie.Need-returns-in-ReduceOr
 returns-2 c =
@@ -42,29 +42,29 @@ returns-2 c =
     c.truth_word.ensures
     ∙ ap truth_bit c.truth.ensures.1
     ∙ truth-or (from_planes a.a.width a.av.now a.au.now)
-    ∙ told c.before.before.before.before _ c.in-ReduceOr.is
+    ∙ told c.before.before.before _ c.in-ReduceOr.is
 
 returns-3 : tie.Need-returns-in-ReduceXor
 returns-3 c =
-    everywhere c.filled-in-ReduceXor.ensures ∙ c.xor_bits.ensures ∙ told c.before.before.before.before _ c.in-ReduceXor.is
+    everywhere c.filled-in-ReduceXor.ensures ∙ c.xor_bits.ensures ∙ told c.before.before.before _ c.in-ReduceXor.is
 
 returns-4 : tie.Need-returns-in-Compare
 returns-4 c =
-    everywhere c.filled-in-Compare.ensures ∙ c.compare.ensures ∙ told c.before.before.before.before.before _ c.in-Compare.is
+    everywhere c.filled-in-Compare.ensures ∙ c.compare.ensures ∙ told c.before.before.before _ c.in-Compare.is
 
 returns-5 : tie.Need-returns-in-LogicAnd
 returns-5 c =
     low c.and_lanes.ensures
     ∙ lane-bit and_bit c.truth_word-x.result c.truth_word-y.result
     ∙ ap₂ and_bit (c.truth_word-x.ensures ∙ ap truth_bit c.truth-in-LogicAnd.ensures.1) (c.truth_word-y.ensures ∙ ap truth_bit c.truth-in-LogicAnd-2.ensures.1)
-    ∙ told c.before.before.before.before.before.before.before _ c.in-LogicAnd.is
+    ∙ told c.before.before.before.before.before.before _ c.in-LogicAnd.is
 
 returns-6 : tie.Need-returns-in-LogicOr
 returns-6 c =
     low c.or_lanes.ensures
     ∙ lane-bit or_bit c.truth_word-x-in-LogicOr.result c.truth_word-y-in-LogicOr.result
     ∙ ap₂ or_bit (c.truth_word-x-in-LogicOr.ensures ∙ ap truth_bit c.truth-in-LogicOr.ensures.1) (c.truth_word-y-in-LogicOr.ensures ∙ ap truth_bit c.truth-in-LogicOr-2.ensures.1)
-    ∙ told c.before.before.before.before.before.before.before _ c.in-LogicOr.is
+    ∙ told c.before.before.before.before.before.before _ c.in-LogicOr.is
 
 pub answer_spec : {M : Type 1} → statement M
 answer_spec =

@@ -46,7 +46,7 @@ module _ (c : tie.After-family_of) where
 -- a select, where the truth was told
 module _ (c : tie.After-truth) where
   abbrev there : tie.After-family_of
-  there = c.before.before.before
+  there = c.before.before
 
   arm-sized : let a = there.args in (length a.ov.now ≡ word_count a.b.width) × (length a.ou.now ≡ word_count a.b.width)
   arm-sized = sized there _ c.in-Select.is
@@ -64,51 +64,51 @@ module _ (c : tie.After-truth) where
 
 join-planes-requires : tie.Need-join_planes-requires
 join-planes-requires c κs =
-    let n = sized c.before.before.before.before.before.before _ c.in-Join.is in
+    let n = sized c.before.before.before.before _ c.in-Join.is in
     let w = ap word_count (sym c.larger-width.ensures) in
     (c.requires.0, (c.requires.1.0, (c.larger-width.ensures, (n.0 ∙ w, n.1 ∙ w))))
 
 not-planes-requires : tie.Need-not_planes-requires
 not-planes-requires c κs =
-    (c.requires.0, sized c.before.before.before.before _ c.in-Not.is)
+    (c.requires.0, sized c.before.before.before _ c.in-Not.is)
 
 slice-write-ov : tie.Need-bounds-ov-0
 slice-write-ov c =
-    let n = sized c.before.before.before.before.before _ c.in-Answer.is in
+    let n = sized c.before.before.before _ c.in-Answer.is in
     omega (arith, n.0)
 
 slice-write-ou : tie.Need-bounds-ou-0
 slice-write-ou c =
-    let n = sized c.before.before.before.before.before.before _ c.in-Answer.is in
+    let n = sized c.before.before.before.before _ c.in-Answer.is in
     omega (arith, n.1)
 
 copy-words-requires : tie.Need-copy_words-requires
 copy-words-requires c κs =
-    (arm-sized c.before.before.before).0 ∙ sym c.requires.1.0.0.count
+    (arm-sized c.before.before).0 ∙ sym c.requires.1.0.0.count
 
 copy-words-requires-2 : tie.Need-copy_words-requires-in-True
 copy-words-requires-2 c κs =
-    (arm-sized c.before.before.before.before.before.before.before).1 ∙ sym c.requires.1.0.1.count
+    (arm-sized c.before.before.before.before.before.before).1 ∙ sym c.requires.1.0.1.count
 
 copy-words-requires-3 : tie.Need-copy_words-requires-in-False
 copy-words-requires-3 c κs =
-    (arm-sized c.before.before.before).0 ∙ ap word_count (sym (alike c.before.before.before)) ∙ sym c.requires.1.1.0.0.count
+    (arm-sized c.before.before).0 ∙ ap word_count (sym (alike c.before.before)) ∙ sym c.requires.1.1.0.0.count
 
 copy-words-requires-4 : tie.Need-copy_words-requires-in-False-2
 copy-words-requires-4 c κs =
-    (arm-sized c.before.before.before.before.before.before.before).1 ∙ ap word_count (sym (alike c.before.before.before.before.before.before.before)) ∙ sym c.requires.1.1.0.1.count
+    (arm-sized c.before.before.before.before.before.before).1 ∙ ap word_count (sym (alike c.before.before.before.before.before.before)) ∙ sym c.requires.1.1.0.1.count
 
 join-planes-requires-2 : tie.Need-join_planes-requires-in-Unknown
 join-planes-requires-2 c κs =
-    (c.requires.1.0, (c.requires.1.1.0, (omega (arith, alike c.before.before.before.before), arm-sized c.before.before.before.before)))
+    (c.requires.1.0, (c.requires.1.1.0, (omega (arith, alike c.before.before.before), arm-sized c.before.before.before)))
 
 copy-words-requires-5 : tie.Need-copy_words-requires-in-Insert
 copy-words-requires-5 c κs =
-    (sized c.before.before.before.before.before _ c.in-Insert.is).0 ∙ sym c.requires.0.0.count
+    (sized c.before.before.before.before _ c.in-Insert.is).0 ∙ sym c.requires.0.0.count
 
 copy-words-requires-6 : tie.Need-copy_words-requires-in-Insert-2
 copy-words-requires-6 c κs =
-    (sized c.before.before.before.before.before.before.before.before.before _ c.in-Insert.is).1 ∙ sym c.requires.0.1.count
+    (sized c.before.before.before.before.before.before.before.before _ c.in-Insert.is).1 ∙ sym c.requires.0.1.count
 
 splice64-requires : tie.Need-splice64-requires
 splice64-requires c κs =
@@ -117,41 +117,41 @@ splice64-requires c κs =
 
 returns : tie.Need-returns-in-Join
 returns c =
-    c.join_planes.ensures ∙ told c.before.before.before.before.before.before.before.before.before.before.before _ c.in-Join.is
+    c.join_planes.ensures ∙ told c.before.before.before.before.before.before.before.before.before _ c.in-Join.is
 
 returns-2 : tie.Need-returns-in-Not
 returns-2 c =
-    c.not_planes.ensures.1 ∙ told c.before.before.before.before.before.before.before.before.before _ c.in-Not.is
+    c.not_planes.ensures.1 ∙ told c.before.before.before.before.before.before.before.before _ c.in-Not.is
 
 returns-3 : tie.Need-returns-in-Answer
 returns-3 c =
     let a = c.args in
-    let n = sized c.before.before.before.before.before.before _ c.in-Answer.is in
-    let r = answer_bit c.in-Answer.q (first c.before.before.before.before.before.before) (second c.before.before.before.before.before.before) in
+    let n = sized c.before.before.before.before _ c.in-Answer.is in
+    let r = answer_bit c.in-Answer.q (first c.before.before.before.before) (second c.before.before.before.before) in
     ap₂ lent
     (plane-done value_digit (r ∷ []) _ _ _ (more {out = a.ov.now} (start n.0) (omega arith) (value-word c.answer-x.result r c.answer-x.ensures)) (omega arith) refl)
     (plane-done unknown_digit (r ∷ []) _ _ _ (more {out = a.ou.now} (start n.1) (omega arith) (unknown-word c.answer-x.result r c.answer-x.ensures)) (omega arith) refl)
-    ∙ told c.before.before.before.before.before.before _ c.in-Answer.is
+    ∙ told c.before.before.before.before _ c.in-Answer.is
 
 returns-4 : tie.Need-returns-in-True
 returns-4 c =
-    let k = there c.before.before.before.before.before.before.before.before.before.before in
+    let k = there c.before.before.before.before.before.before.before.before.before in
     let a = k.args in
     ap₂ lent c.copy_words.ensures c.copy_words-in-True.ensures
     ∙ planes-again a.b.width a.bv.now a.bu.now k.requires.1.0.0 k.requires.1.0.1 (λ i. (k.shared_slice_known-3-1.given i).fits) (λ i. (k.shared_slice_known-4-1.given i).fits)
-    ∙ chosen c.before.before.before.before.before.before.before.before.before.before _ c.in-True.is
+    ∙ chosen c.before.before.before.before.before.before.before.before.before _ c.in-True.is
 
 returns-5 : tie.Need-returns-in-False
 returns-5 c =
-    let k = there c.before.before.before.before.before.before.before.before.before.before in
+    let k = there c.before.before.before.before.before.before.before.before.before in
     let a = k.args in
     ap₂ lent c.copy_words-in-False.ensures c.copy_words-in-False-2.ensures
     ∙ planes-again a.c.width a.cv.now a.cu.now k.requires.1.1.0.0 k.requires.1.1.0.1 (λ i. (k.shared_slice_known-5-1.given i).fits) (λ i. (k.shared_slice_known-6-1.given i).fits)
-    ∙ chosen c.before.before.before.before.before.before.before.before.before.before _ c.in-False.is
+    ∙ chosen c.before.before.before.before.before.before.before.before.before _ c.in-False.is
 
 returns-6 : tie.Need-returns-in-Unknown
 returns-6 c =
-    c.join_planes-in-Unknown.ensures ∙ chosen c.before.before.before.before.before.before.before.before.before _ c.in-Unknown.is
+    c.join_planes-in-Unknown.ensures ∙ chosen c.before.before.before.before.before.before.before.before _ c.in-Unknown.is
 
 returns-7 : tie.Need-returns-in-Insert
 returns-7 c =
@@ -160,7 +160,7 @@ returns-7 c =
     ∙ ap₂ (λ (p : Planes) (x : Word). planes_of (spliced (vector_of a.a.width p) a.pos a.b.width x))
     (ap₂ lent c.copy_words-in-Insert.ensures c.copy_words-in-Insert-2.ensures)
     (c.operand_word-bits.ensures ∙ first_word (at (from_planes a.b.width a.bv.now a.bu.now)))
-    ∙ told c.before.before.before.before.before.before.before.before.before.before.before.before.before.before.before.before.before.before.before _ c.in-Insert.is
+    ∙ told c.before.before.before.before.before.before.before.before.before.before.before.before.before.before.before.before.before.before _ c.in-Insert.is
 
 pub work_spec : {M : Type 1} → statement M
 work_spec =

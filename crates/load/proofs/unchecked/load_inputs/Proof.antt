@@ -107,7 +107,7 @@ module _ (a : tie.After-load_input invariant-loop decreases-loop) where
   s = state (store_of i f) (lent l.loop-i.av l.loop-i.au)
 
   abbrev left : Planes
-  left = lent a.load_input.new.1.1.1.1.0 a.load_input.new.1.1.1.1.1.0
+  left = lent a.load_input.new.au.1.1.1.0 a.load_input.new.au.1.1.1.1.0
 
   inside : i < st.args.list.input_count
   inside = a.loop-i-test.taken
@@ -137,7 +137,7 @@ module _ (a : tie.After-load_input invariant-loop decreases-loop) where
 -- where it is refused
 module _ (r : tie.In-Refused invariant-loop decreases-loop) where
   abbrev at-refused : tie.After-load_input invariant-loop decreases-loop
-  at-refused = r.before.before.before.before.before.before.before
+  at-refused = r.before.before.before.before.before
 
   abbrev number : ℕ
   number = refusal_number r.in-Refused.r
@@ -148,7 +148,7 @@ module _ (r : tie.In-Refused invariant-loop decreases-loop) where
 -- where it has a cell
 module _ (r : tie.In-At invariant-loop decreases-loop) where
   abbrev b : tie.After-load_input invariant-loop decreases-loop
-  b = r.before.before.before.before.before.before.before
+  b = r.before.before.before.before.before
 
   abbrev at : ℕ
   at = r.in-At.at
@@ -167,7 +167,7 @@ module _ (r : tie.In-At invariant-loop decreases-loop) where
 
   more : Laid (put_fields (f b) (i b) cell) (i b + 1) (at + word_count h.width) (left b)
   more =
-      lay-more (f b) (i b) cell (l b).loop.inv.fitted.whole is.few (left b) is.begins
+      lay-more (f b) (i b) cell (l b).loop-i.inv.fitted.whole is.few (left b) is.begins
       (input-agrees (s b) (state (with_cell cell (s b).store) (left b)) (v b) (i b) (places b) (width b) is.added (laid b).agreed)
 
   within : at + word_count h.width ≤ length (left b).value
@@ -214,8 +214,8 @@ returns-2 c =
     let a = at-refused c in
     let p = planes_of (v a).bits in
     let e = input-refused (s a) (v a).header p (places a) (laid a).agreed (number c) (left a) (not_taken c) in (
-      feed-last (st a).args.t1.input_count (vectors a) (from a) (s a) (i a) (l a).loop.inv.fed (inside a) (number c) (state (store_of (i a) (f a)) (left a)) e.1,
-      subst (Fitted (f a) (i a) (l a).loop.next) (sym e.0) (l a).loop.inv.fitted,
+      feed-last (st a).args.t1.input_count (vectors a) (from a) (s a) (i a) (l a).loop-i.inv.fed (inside a) (number c) (state (store_of (i a) (f a)) (left a)) e.1,
+      subst (Fitted (f a) (i a) (l a).loop-i.next) (sym e.0) (l a).loop-i.inv.fitted,
     )
 
 loop-again : tie.Need-loop-i-preserved invariant-loop decreases-loop
@@ -223,15 +223,15 @@ loop-again c =
     let a = b c.before.before in
     let kept = a.load_input.kept.1.1.1.1 in
     let w : at c.before.before + c.word_count.result ≡ at c.before.before + word_count (h c.before.before).width = ap (λ (n : ℕ). at c.before.before + n) c.word_count.ensures in
-    let x = ap (λ (z : Store). outcome (given (i a)) (state z (left a))) (sym (with-fields (f a) (i a) (cell c.before.before) (l a).loop.inv.fitted.whole (is c.before.before).few)) ∙ (is c.before.before).added in
+    let x = ap (λ (z : Store). outcome (given (i a)) (state z (left a))) (sym (with-fields (f a) (i a) (cell c.before.before) (l a).loop-i.inv.fitted.whole (is c.before.before).few)) ∙ (is c.before.before).added in
     record {
-      value-long = kept.0 ∙ (l a).loop.inv.value-long;
-      unknown-long = kept.1.0 ∙ (l a).loop.inv.unknown-long;
+      value-long = kept.0 ∙ (l a).loop-i.inv.value-long;
+      unknown-long = kept.1.0 ∙ (l a).loop-i.inv.unknown-long;
       within = omega (arith, inside a);
       level = λ z. kept.0 ∙ level a ∙ sym kept.1.0;
-      fitted = fitted-more (f a) (i a) (l a).loop.next (s a).arenas (l a).loop.inv.fitted (is c.before.before).few (cell c.before.before) (thin a) _ (left a) w (more c.before.before);
+      fitted = fitted-more (f a) (i a) (l a).loop-i.next (s a).arenas (l a).loop-i.inv.fitted (is c.before.before).few (cell c.before.before) (thin a) _ (left a) w (more c.before.before);
       fed =
-          feed-more (st a).args.t1.input_count (vectors a) (from a) (s a) (i a) (l a).loop.inv.fed (inside a) (i a)
+          feed-more (st a).args.t1.input_count (vectors a) (from a) (s a) (i a) (l a).loop-i.inv.fed (inside a) (i a)
           (state (store_of (i a + 1) (put_fields (f a) (i a) (cell c.before.before))) (left a)) x;
     }
 
@@ -256,7 +256,7 @@ element-write-f-4 c = omega (arith, (is c.before).few)
 add-next : tie.Need-overflow_add-next invariant-loop decreases-loop
 add-next c =
     let a = b c.before.before in
-    omega (arith, within c.before.before, c.word_count.ensures, a.load_input.kept.1.1.1.1.0, (l a).loop.inv.value-long, (st a).good.1.1.0)
+    omega (arith, within c.before.before, c.word_count.ensures, a.load_input.kept.1.1.1.1.0, (l a).loop-i.inv.value-long, (st a).good.1.1.0)
 
 add-i : tie.Need-overflow_add-i invariant-loop decreases-loop
 add-i c = omega (arith, (is c.before.before).few)

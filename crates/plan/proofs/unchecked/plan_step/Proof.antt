@@ -149,13 +149,13 @@ returns-2 c =
     simp (lt-leb _ _ (few (begin c.before.before.before.before) c.if-count-ge320.false), told c.before.before.before.before true c.if-count-a.true)
 
 header-at-requires : tie.Need-header_at-x-requires
-header-at-requires c κs = omega (arith, (there c).a, ap (λ (t : Step). t.a) (first c).named.ensures, (start c).requires.0)
+header-at-requires c κs = omega (arith, (there c).a, ap (λ (t : Step). t.a) (first c).named-t.ensures, (start c).requires.0)
 
 header-at-requires-2 : tie.Need-header_at-y-requires
-header-at-requires-2 c κs = omega (arith, (there c.before).b, ap (λ (t : Step). t.b) (first c.before).named.ensures, (start c.before).requires.0)
+header-at-requires-2 c κs = omega (arith, (there c.before).b, ap (λ (t : Step). t.b) (first c.before).named-t.ensures, (start c.before).requires.0)
 
 header-at-requires-3 : tie.Need-header_at-z-requires
-header-at-requires-3 c κs = omega (arith, (there c.before.before).c, ap (λ (t : Step). t.c) (first c.before.before).named.ensures, (start c.before.before).requires.0)
+header-at-requires-3 c κs = omega (arith, (there c.before.before).c, ap (λ (t : Step). t.c) (first c.before.before).named-t.ensures, (start c.before.before).requires.0)
 
 returns-3 : tie.Need-returns-then-arms_refused
 unfolding check_step
@@ -171,7 +171,7 @@ returns-4 c = simp (decided c.before.before.before true c.if-room-next.true)
 
 returns-5 : tie.Need-returns
 returns-5 c =
-    let n = (first (e (k c.before.before.before.before))).named.ensures in
+    let n = (first (e (k c.before.before.before.before))).named-t.ensures in
     simp (decided c.before.before.before.before false c.if-room-next.false)
     (λ i. given (record {
       op = (s c.before.before.before.before).args.step.op;

@@ -50,7 +50,7 @@ same-requires c κs = search rules
 
 returns : tie.Need-returns-then-same invariant-loop decreases-loop
 returns c =
-    sym (rest c.before ∙ this (at-loop c.before).loop.k (left c.before) (names c.before) (name c.before) (sym c.part.ensures ∙ c.same.ensures.0 c.if-same.true))
+    sym (rest c.before ∙ this (at-loop c.before).loop-k.k (left c.before) (names c.before) (name c.before) (sym c.part.ensures ∙ c.same.ensures.0 c.if-same.true))
 
 add-k : tie.Need-overflow_add-k invariant-loop decreases-loop
 add-k c = search rules
@@ -60,7 +60,7 @@ loop-less c = search rules
 
 loop-again : tie.Need-loop-k-preserved invariant-loop decreases-loop
 loop-again c =
-    (omega arith, rest c.before ∙ other (at-loop c.before).loop.k (left c.before) (names c.before) (name c.before) (differs c.before c.if-same.false))
+    (omega arith, rest c.before ∙ other (at-loop c.before).loop-k.k (left c.before) (names c.before) (name c.before) (differs c.before c.if-same.false))
 
 returns-2 : tie.Need-returns invariant-loop decreases-loop
 unfolding name_from

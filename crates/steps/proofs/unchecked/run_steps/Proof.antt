@@ -39,7 +39,7 @@ returns c =
     let u = uneven (count c) (length c.args.av.now) (length c.args.au.now) c.if-list-av.true in
     let m = entered c in
     sym (walk-last (count c) (step (list c)) m c.args.out.now m c.args.out.now 0 0 (first c) u.0
-    (refused 14) m c.put_refused.new.0 c.put_refused.result ((store-refused m.state 14 (state-uneven m.state u.1)).1 m.scratch (step (list c) 0)) 14 refl
+    (refused 14) m c.put_refused.new.out.0 c.put_refused.result ((store-refused m.state 14 (state-uneven m.state u.1)).1 m.scratch (step (list c) 0)) 14 refl
     (c.put_refused.ensures ∙ ap (λ j. put (buffer c.args.out.now 0) (refused_text j 1)) c.number.ensures))
 
 loop-holds : tie.Need-loop-k-init Inv-loop μ-loop
@@ -76,7 +76,7 @@ put-refused-requires-2 : tie.Need-put_refused-requires-in-Refused Inv-loop μ-lo
 put-refused-requires-2 c κs =
     let a = at-refused c in
     let g = (start a).pre.0 in
-    let i = (turn a).loop.inv.walked in (
+    let i = (turn a).loop-k.inv.walked in (
       omega (arith, c.number-in-Refused.ensures, number_small c.in-Refused.r),
       omega (arith, few c),
       omega (arith, inside a, g.0, g.1, i.short, i.long),
@@ -99,16 +99,16 @@ same-length-5 : tie.Need-shape_of-su-in-Refused Inv-loop μ-loop
 same-length-5 c = scratch-unknown-kept (at-end c)
 
 same-length-6 : tie.Need-shape_of-out-in-Refused Inv-loop μ-loop
-same-length-6 c = c.put_refused-in-Refused.auto.0 ∙ (turn (at-end c)).loop.inv.out-long
+same-length-6 c = c.put_refused-in-Refused.auto.0 ∙ (turn (at-end c)).loop-k.inv.out-long
 
 returns-2 : tie.Need-returns-in-Refused Inv-loop μ-loop
 returns-2 c =
     let a = at-end c in
     let s = start a in
     let r = c.known_told-1.given in
-    let o = buffer (turn a).loop.out (turn a).loop.at in
-    sym (walk-last (count s) (step (list s)) (entered s) s.args.out.now (found a) (turn a).loop.out (turn a).loop.at (place a) (turn a).loop.inv.walked (inside a)
-    (refused (refusal_number r.0.0)) (left a (store_of (filled a) (fields a))) c.put_refused-in-Refused.new.0 c.put_refused-in-Refused.result (told a (Refused r.0.0) r.1) (refusal_number r.0.0) refl
+    let o = buffer (turn a).loop-k.out (turn a).loop-k.at in
+    sym (walk-last (count s) (step (list s)) (entered s) s.args.out.now (found a) (turn a).loop-k.out (turn a).loop-k.at (place a) (turn a).loop-k.inv.walked (inside a)
+    (refused (refusal_number r.0.0)) (left a (store_of (filled a) (fields a))) c.put_refused-in-Refused.new.out.0 c.put_refused-in-Refused.result (told a (Refused r.0.0) r.1) (refusal_number r.0.0) refl
     (c.put_refused-in-Refused.ensures ∙ ap (λ x. put o (refused_text x (place a + 1))) c.number-in-Refused.ensures))
 
 cast-put-step : tie.Need-overflow_cast-n Inv-loop μ-loop
@@ -118,7 +118,7 @@ put-step-requires : tie.Need-put_step-at-requires Inv-loop μ-loop
 put-step-requires c κs =
     let a = taken c in
     let g = (start a).pre.0 in
-    let i = (turn a).loop.inv.walked in (
+    let i = (turn a).loop-k.inv.walked in (
       (omega (arith, (shown c).few), omega (arith, inside a, g.0, g.1, i.short, i.long, (shown c).thin)),
       ((shown c).value-long, (shown c).unknown-long),
     )
@@ -146,7 +146,7 @@ add-next c =
     let r = added-at c.before.before.before in
     let a = taken r in
     let within = next-within (arenas a) _ (filled a + 1) (laid_more r).agreed in
-    omega (arith, within, (laid_more r).words, c.word_count.ensures, a.take_step.kept.1.1.1.1.1.1.1.0, (turn a).loop.inv.value-long, (start a).good.1.1.0)
+    omega (arith, within, (laid_more r).words, c.word_count.ensures, a.take_step.kept.1.1.1.1.1.1.1.0, (turn a).loop-k.inv.value-long, (start a).good.1.1.0)
 
 add-n : tie.Need-overflow_add-n Inv-loop μ-loop
 add-n c = omega (arith, below (added-at c.before.before.before.before))
@@ -166,8 +166,8 @@ loop-again c =
     let r = added-at c in
     let a = taken_at c in
     let s = start a in
-    let i = (turn a).loop.inv in
-    let same : length (bytes c) ≡ length (turn a).loop.out = c.put_step-at.auto.0 in
+    let i = (turn a).loop-k.inv in
+    let same : length (bytes c) ≡ length (turn a).loop-k.out = c.put_step-at.auto.0 in
     let g = put_fields (fields a) (filled a) (cell r) in
     let x : (cell r).start + c.word_count.result ≡ (cell r).start + word_count (cell r).header.width = ap (λ (j : ℕ). (cell r).start + j) c.word_count.ensures in
     let called =
@@ -181,9 +181,9 @@ loop-again c =
       within = omega (arith, inside a);
       level = λ z. value-kept a ∙ sym i.value-long ∙ i.level z ∙ i.unknown-long ∙ sym (unknown-kept a);
       fitted =
-          fitted-more (fields a) (filled a) (turn a).loop.next (found a).state.arenas i.fitted (below r) (cell r) (shown r).thin _ (arenas a) x (laid_more r);
+          fitted-more (fields a) (filled a) (turn a).loop-k.next (found a).state.arenas i.fitted (below r) (cell r) (shown r).thin _ (arenas a) x (laid_more r);
       walked =
-          walk_more (count s) (step (list s)) (entered s) s.args.out.now (found a) (turn a).loop.out (turn a).loop.at (place a) i.walked (inside a)
+          walk_more (count s) (step (list s)) (entered s) s.args.out.now (found a) (turn a).loop-k.out (turn a).loop-k.at (place a) i.walked (inside a)
           (given (filled a)) (left a (store_of (filled a + 1) g)) (bytes c) c.put_step-at.result called (filled a) refl (written c)
           (omega (arith, inside a, s.requires.0.0, s.requires.0.1, i.walked.short, i.walked.long)) (short c) same;
     }
@@ -199,19 +199,19 @@ abbrev looped : tie.After-slice_known-6-1 Inv-loop μ-loop → tie.At-loop-k Inv
 looped c = c.before.before.before.before.before
 
 same-length-7 : tie.Need-shape_of-av Inv-loop μ-loop
-same-length-7 c = (looped c).loop.invariant.value-long
+same-length-7 c = (looped c).loop-k.invariant.value-long
 
 same-length-8 : tie.Need-shape_of-au Inv-loop μ-loop
-same-length-8 c = (looped c).loop.invariant.unknown-long
+same-length-8 c = (looped c).loop-k.invariant.unknown-long
 
 same-length-9 : tie.Need-shape_of-sv Inv-loop μ-loop
-same-length-9 c = (looped c).loop.invariant.scratch-value-long
+same-length-9 c = (looped c).loop-k.invariant.scratch-value-long
 
 same-length-10 : tie.Need-shape_of-su Inv-loop μ-loop
-same-length-10 c = (looped c).loop.invariant.scratch-unknown-long
+same-length-10 c = (looped c).loop-k.invariant.scratch-unknown-long
 
 same-length-11 : tie.Need-shape_of-out Inv-loop μ-loop
-same-length-11 c = c.put_done.auto.0 ∙ (looped c).loop.invariant.out-long
+same-length-11 c = c.put_done.auto.0 ∙ (looped c).loop-k.invariant.out-long
 
 returns-3 : tie.Need-returns Inv-loop μ-loop
 returns-3 c =

@@ -36,7 +36,7 @@ places k = simp length-map at (st k).well-formed.0.1.1.0.1.0.1
 -- not 14
 module _ (t : tie.In-At) where
   abbrev k : tie.After-check_cells
-  k = t.before.before.before
+  k = t.before
 
   found : (agrees (all k) ≡ true) × (next_word (st k).args.self ≡ t.in-At.next)
   found = told-accepted (all k) t.in-At.next (sym k.check_cells.ensures ∙ ap place_answer t.in-At.is)
@@ -47,7 +47,7 @@ module _ (i : tie.After-take_input) where
   t = i.before.before.before
 
   abbrev left : Planes
-  left = lent i.take_input.new.1.1.1.1.1.0 i.take_input.new.1.1.1.1.1.1.0
+  left = lent i.take_input.new.au.1.1.1.1.0 i.take_input.new.au.1.1.1.1.1.0
 
   told : (x : PlaceAnswer) → i.take_input.result ≡ x
       → let s = all (k t) in outcome (place_answer x) left ≡ take_input s.store.count (next_word s.store) (st (k t)).args.h (input (k t)) s.arenas
@@ -67,23 +67,23 @@ take-input-requires c κs =
 
 with-cell-requires : tie.Need-with_cell-requires
 with-cell-requires c κs =
-    (taken c.before.before.before.before.before.before.before c.in-At-take_input.at c.in-At-take_input.is).few
+    (taken c.before.before.before.before.before c.in-At-take_input.at c.in-At-take_input.is).few
 
 returns : tie.Need-returns-in-Refused
 returns c =
     let r = refusal_number c.in-Refused.r in
-    let e = told-refused (all c.before.before.before) r (sym c.check_cells.ensures ∙ ap place_answer c.in-Refused.is) in
-    (store-refused (all c.before.before.before) r e).0 (st c.before.before.before).args.h (input c.before.before.before)
+    let e = told-refused (all c.before) r (sym c.check_cells.ensures ∙ ap place_answer c.in-Refused.is) in
+    (store-refused (all c.before) r e).0 (st c.before).args.h (input c.before)
 
 returns-2 : tie.Need-returns-in-Refused-take_input
 returns-2 c =
-    let b = k (t c.before.before.before.before.before.before.before) in
+    let b = k (t c.before.before.before.before.before) in
     let r = c.known_told-in-Refused-take_input-1.given in
-    (input-refused (all b) (st b).args.h (input b) (places b) (found (t c.before.before.before.before.before.before.before)).0 (refusal_number r.0.0) (left c.before.before.before.before.before.before.before) (told c.before.before.before.before.before.before.before (Refused r.0.0) r.1)).1
+    (input-refused (all b) (st b).args.h (input b) (places b) (found (t c.before.before.before.before.before)).0 (refusal_number r.0.0) (left c.before.before.before.before.before) (told c.before.before.before.before.before (Refused r.0.0) r.1)).1
 
 returns-3 : tie.Need-returns-in-At-take_input
 returns-3 c =
-    ap (λ (s : Store). outcome (given (all (k (t c.before.before.before.before.before.before.before.before))).store.count) (state s (left c.before.before.before.before.before.before.before.before))) c.with_cell.ensures ∙ (taken c.before.before.before.before.before.before.before.before c.in-At-take_input.at c.in-At-take_input.is).added
+    ap (λ (s : Store). outcome (given (all (k (t c.before.before.before.before.before.before))).store.count) (state s (left c.before.before.before.before.before.before))) c.with_cell.ensures ∙ (taken c.before.before.before.before.before.before c.in-At-take_input.at c.in-At-take_input.is).added
 
 pub add_input_spec : {M : Type 1} → statement M
 add_input_spec =

@@ -34,7 +34,7 @@ places k = simp length-map at (st k).well-formed.0.1.1.0.1.0.1
 -- not 14
 module _ (t : tie.In-At) where
   abbrev k : tie.After-check_cells
-  k = t.before.before.before
+  k = t.before
 
   found : (agrees (all k) ≡ true) × (next_word (st k).args.self ≡ t.in-At.next)
   found = told-accepted (all k) t.in-At.next (sym k.check_cells.ensures ∙ ap place_answer t.in-At.is)
@@ -42,7 +42,7 @@ module _ (t : tie.In-At) where
 -- the four arrays are those of the store
 module _ (f : tie.After-fields_of-f) where
   abbrev b : tie.After-check_cells
-  b = k f.before.before.before.before
+  b = k f.before.before
 
   same : (st b).args.self ≡ store_of (st b).args.self.count f.fields_of-f.result
   same =
@@ -59,7 +59,7 @@ module _ (i : tie.After-take_step) where
 
   abbrev left : Store → Memory
   left s =
-      let r = i.take_step.new.1.1.1.1.1.1.1 in
+      let r = i.take_step.new.su.1.1.1.1 in
       memory (state s (lent r.0 r.1.0)) (lent r.1.1.0 r.1.1.1.0)
 
   told : (x : StepAnswer) → i.take_step.result ≡ x
@@ -84,13 +84,13 @@ take-step-requires c κs =
 with-cell-requires : tie.Need-with_cell-requires
 with-cell-requires c κs =
     let a = c.known_told-in-Added-1.given in
-    step-few (before c.before.before.before.before.before.before.before.before.before.before.before) _ (st (b (f c.before.before.before.before.before.before.before.before.before.before.before))).args.step _ (places (b (f c.before.before.before.before.before.before.before.before.before.before.before))) (told c.before.before.before.before.before.before.before.before.before.before.before (Added a.0.0) a.1)
+    step-few (before c.before.before.before.before.before.before.before.before.before) _ (st (b (f c.before.before.before.before.before.before.before.before.before))).args.step _ (places (b (f c.before.before.before.before.before.before.before.before.before))) (told c.before.before.before.before.before.before.before.before.before (Added a.0.0) a.1)
 
 returns : tie.Need-returns-in-Refused
 returns c =
     let r = refusal_number c.in-Refused.r in
-    let e = told-refused (all c.before.before.before) r (sym c.check_cells.ensures ∙ ap place_answer c.in-Refused.is) in
-    (store-refused (all c.before.before.before) r e).1 (scratch c.before.before.before) (st c.before.before.before).args.step
+    let e = told-refused (all c.before) r (sym c.check_cells.ensures ∙ ap place_answer c.in-Refused.is) in
+    (store-refused (all c.before) r e).1 (scratch c.before) (st c.before).args.step
 
 returns-2 : tie.Need-returns-in-Refused-take_step
 returns-2 c =

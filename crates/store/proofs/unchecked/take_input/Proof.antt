@@ -47,7 +47,7 @@ module _ (k : tie.After-plan_input) where
 -- nothing was refused
 module _ (t : tie.In-At) where
   abbrev p : tie.After-plan_input
-  p = t.before.before.before
+  p = t.before
 
   found : (check p ≡ given tt) × ((st p).args.next ≡ t.in-At.at)
   found = answer-given (check p) (st p).args.next t.in-At.at (sym (told p) ∙ ap place_answer t.in-At.is)
@@ -77,7 +77,7 @@ copy-behind-requires c κs =
 
 returns : tie.Need-returns-in-Refused
 returns c =
-    sym (ap (by c.before.before.before) (answer-refused (check c.before.before.before) (st c.before.before.before).args.next (refusal_number c.in-Refused.r) (sym (told c.before.before.before) ∙ ap place_answer c.in-Refused.is)))
+    sym (ap (by c.before) (answer-refused (check c.before) (st c.before).args.next (refusal_number c.in-Refused.r) (sym (told c.before) ∙ ap place_answer c.in-Refused.is)))
 
 returns-2 : tie.Need-returns-in-At
 returns-2 c =

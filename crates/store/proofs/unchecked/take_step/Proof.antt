@@ -68,7 +68,7 @@ module _ (k : tie.After-plan_step) where
 -- nothing was refused
 module _ (t : tie.In-Planned) where
   abbrev from : tie.Start
-  from = s t.before.before.before.before.before.before.before.before.before
+  from = s t.before.before.before.before.before.before.before
 
   abbrev p : PlannedStep
   p = t.in-Planned.p
@@ -94,10 +94,10 @@ execute-requires c κs =
 
 returns : tie.Need-returns-in-Refused
 returns c =
-    let st = s c.before.before.before in
+    let st = s c.before in
     let r = refusal_number c.in-Refused.r in
     step-refused (n st) (table st) (m st) st.args.step st.requires.agreed r
-    (answer-refused (check st) (planned (hs st) st.args.step) r (sym (told c.before.before.before) ∙ ap plan_answer c.in-Refused.is))
+    (answer-refused (check st) (planned (hs st) st.args.step) r (sym (told c.before) ∙ ap plan_answer c.in-Refused.is))
 
 returns-2 : tie.Need-returns-in-Planned
 returns-2 c =
