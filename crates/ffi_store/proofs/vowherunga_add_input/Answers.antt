@@ -10,7 +10,7 @@ pub returns : goal.returns
 returns c =
     let g = c.args in
     let r = c.add_input-r.result in
-    let d = c.add_input-r.new.au.1.1.1 in
+    let d = c.add_input-r.new.1.1.1.1 in
     let t = c.settle.new.1 in
     input-crosses g.count (fields g.starts.now g.widths.now g.signs.now g.fills.now) (lent g.arena_value.now g.arena_unknown.now)
     c.store_of-s.result c.store_of-s.ensures

@@ -48,4 +48,9 @@ returns c =
     ∙ sym (op-line (text c.before.before) (name_line op_key names (drop (from c.before.before) (text c.before.before))))
 
 pub op_line_spec : {M : Type 1} → statement M
-op_line_spec = tie.close (tie.spec (λ c. search rules) (λ c κs. search rules) (λ c. search rules) op-at-requires returns)
+op_line_spec = tie.close (tie.spec
+    (λ c κs. search rules)
+    (λ c. search rules)
+    op-at-requires
+    returns)
+

@@ -47,11 +47,9 @@ pub read_input_spec : {M : Type 1} → statement M
 read_input_spec =
     tie.close
     (tie.spec
-    (λ c. search rules)
     (λ c κs. search rules)
-    (λ c. search rules)
     (λ c κs. search rules)
-    (λ c. search rules)
     (λ c κs. search rules)
     add-t18
     returns)
+

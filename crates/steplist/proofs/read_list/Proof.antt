@@ -54,9 +54,7 @@ pub read_list_spec : {M : Type 1} → statement M
 read_list_spec =
     tie.close
     (tie.spec
-    (λ c. search rules)
     (λ c κs. search rules)
-    (λ c. search rules)
     (λ c κs. search rules)
     (λ c. search rules)
     (λ c. search rules)
@@ -64,3 +62,4 @@ read_list_spec =
     read-steps-requires
     returns
     returns-2)
+

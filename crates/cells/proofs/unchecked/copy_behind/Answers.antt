@@ -21,5 +21,5 @@ pub returns : goal.returns
 returns c =
     let g = c.args in
     ap₂ lent
-    (back g.at g.n g.av.now c.copy_front.new.plane.0 g.value.now c.requires.n_in_bounds.0 c.copy_front.ensures)
-    (back g.at g.n g.au.now c.copy_front-2.new.plane.0 g.unknown.now c.requires.n_in_bounds.1 c.copy_front-2.ensures)
+    (back g.at g.n g.av.now c.copy_front.new.plane g.value.now c.requires.n_in_bounds.0 c.copy_front.ensures)
+    (back g.at g.n g.au.now c.copy_front-2.new.plane g.unknown.now c.requires.n_in_bounds.1 c.copy_front-2.ensures)

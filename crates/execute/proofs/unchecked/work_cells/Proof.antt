@@ -117,7 +117,7 @@ returns c =
     let r = op_vector g.op (cell_vector a o.a) (cell_vector a o.b) (cell_vector a o.c) g.pos in
     let width = result-width (cell_vector a o.a) (cell_vector a o.b) (cell_vector a o.c) g.pos (length-tabulate _ _) (length-tabulate _ _) (length-tabulate _ _) g.op s.requires.1.1.1.1.0 in
     let words = size c.before.before.before.before.before.before.before.before.before.before.before.before.before.before.before.before.before.before.before.before.before.before ∙ ap word_count (sym width) in
-    let e : lent c.work.new.ou.1.1.1.1.1.1.1.1.1.1.0 c.work.new.ou.1.1.1.1.1.1.1.1.1.1.1.0 ≡ planes_of r.bits =
+    let e : lent c.work.new.1.1.1.1.1.1.1.1.1.1.1.0 c.work.new.1.1.1.1.1.1.1.1.1.1.1.1.0 ≡ planes_of r.bits =
     c.work.ensures
     ∙ (λ c.
     planes_of

@@ -27,10 +27,10 @@ module _ (f : tie.After-fill_planes) where
   st = w.before.before.before.before.before
 
   abbrev value : List ℕ
-  value = f.fill_planes.new.unknown.1.1.0
+  value = f.fill_planes.new.1.1.1.0
 
   abbrev unknown : List ℕ
-  unknown = f.fill_planes.new.unknown.1.1.1.0
+  unknown = f.fill_planes.new.1.1.1.1.0
 
   abbrev bits : List LogicBit
   bits = bits_in st.args.text.now st.args.x.place st.args.x.header.width

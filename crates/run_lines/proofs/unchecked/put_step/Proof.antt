@@ -100,16 +100,15 @@ pub put_step_spec : {M : Type 1} → statement M
 put_step_spec =
     tie.close
     (tie.spec
-    slice-aggregate-put-number-line
     put-number-line-requires
     word-count-requires
-    slice-aggregate-put-bits-line
     sub-put-bits-line
-    part-put-bits-line-start
-    part-put-bits-line-end
+    (λ c. search rules)
+    (λ c. search rules)
     sub-put-bits-line-2
-    part-put-bits-line-start-2
-    part-put-bits-line-end-2
+    (λ c. search rules)
+    (λ c. search rules)
     put-bits-line-requires
     same_length
     returns)
+

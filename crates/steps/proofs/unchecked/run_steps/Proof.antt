@@ -39,7 +39,7 @@ returns c =
     let u = uneven (count c) (length c.args.av.now) (length c.args.au.now) c.if-list-av.true in
     let m = entered c in
     sym (walk-last (count c) (step (list c)) m c.args.out.now m c.args.out.now 0 0 (first c) u.0
-    (refused 14) m c.put_refused.new.out.0 c.put_refused.result ((store-refused m.state 14 (state-uneven m.state u.1)).1 m.scratch (step (list c) 0)) 14 refl
+    (refused 14) m c.put_refused.new.out c.put_refused.result ((store-refused m.state 14 (state-uneven m.state u.1)).1 m.scratch (step (list c) 0)) 14 refl
     (c.put_refused.ensures ∙ ap (λ j. put (buffer c.args.out.now 0) (refused_text j 1)) c.number.ensures))
 
 loop-holds : tie.Need-loop-k-init Inv-loop μ-loop
@@ -108,7 +108,7 @@ returns-2 c =
     let r = c.known_told-1.given in
     let o = buffer (turn a).loop-k.out (turn a).loop-k.at in
     sym (walk-last (count s) (step (list s)) (entered s) s.args.out.now (found a) (turn a).loop-k.out (turn a).loop-k.at (place a) (turn a).loop-k.inv.walked (inside a)
-    (refused (refusal_number r.0.0)) (left a (store_of (filled a) (fields a))) c.put_refused-in-Refused.new.out.0 c.put_refused-in-Refused.result (told a (Refused r.0.0) r.1) (refusal_number r.0.0) refl
+    (refused (refusal_number r.0.0)) (left a (store_of (filled a) (fields a))) c.put_refused-in-Refused.new.out c.put_refused-in-Refused.result (told a (Refused r.0.0) r.1) (refusal_number r.0.0) refl
     (c.put_refused-in-Refused.ensures ∙ ap (λ x. put o (refused_text x (place a + 1))) c.number-in-Refused.ensures))
 
 cast-put-step : tie.Need-overflow_cast-n Inv-loop μ-loop
@@ -223,8 +223,6 @@ pub run_steps_spec : {M : Type 1} → statement M
 run_steps_spec =
     tie.close
     (tie.spec
-    Inv-loop
-    μ-loop
     (λ c κs. search rules)
     (λ c. search rules)
     put-refused-requires
@@ -269,3 +267,4 @@ run_steps_spec =
     same-length-10
     same-length-11
     returns-3)
+

@@ -59,7 +59,7 @@ module _ (i : tie.After-take_step) where
 
   abbrev left : Store → Memory
   left s =
-      let r = i.take_step.new.su.1.1.1.1 in
+      let r = i.take_step.new.1.1.1.1.1.1.1 in
       memory (state s (lent r.0 r.1.0)) (lent r.1.1.0 r.1.1.1.0)
 
   told : (x : StepAnswer) → i.take_step.result ≡ x
