@@ -25,13 +25,13 @@ returns-3 : tie.Need-returns-then-room-next
 returns-3 c =
     let a = (start c.before).args in
     let h : a.room.arena - a.next < word_count a.width = omega (arith, c.word_count.ensures, c.if-room-next.true) in
-    simp (lt-leb _ _ (told c.before).before.before.if1.false, (told c.before).enum_told-1.given.1, lt-ltb _ _ h)
+    simp (lt-leb _ _ (told c.before).if-count-ge320.false, c.in-Accepted.is, lt-ltb _ _ h)
 
 returns-4 : tie.Need-returns-else-room-next
 returns-4 c =
     let a = (start c.before).args in
     let h : word_count a.width ≤ a.room.arena - a.next = omega (arith, c.word_count.ensures, c.if-room-next.false) in
-    simp (lt-leb _ _ (told c.before).before.before.if1.false, (told c.before).enum_told-1.given.1, le-ltb _ _ h)
+    simp (lt-leb _ _ (told c.before).if-count-ge320.false, c.in-Accepted.is, le-ltb _ _ h)
 
 pub plan_input_spec : {M : Type 1} → statement M
 plan_input_spec =

@@ -65,7 +65,7 @@ module _ (e : tie.Else-count-a) where
   step = start.args.step
 
   names-all : names (length (hs start)) step ≡ true
-  names-all = told first false e.if-count-a.left
+  names-all = told first false e.if-count-a.false
 
   there : NamesFilled start.args.count step
   there = names-within start.args.count step (ap (λ (k : ℕ). names k step) (sym (counted start)) ∙ names-all)
@@ -134,7 +134,7 @@ module _ (w : tie.After-word_count-w) where
   unfolding check_step
   decided b h =
       let v = word_count (step_header (hs s) s.args.step).width in
-      simp (lt-leb _ _ (few s (first (e k)).before.if1.left), names-all (e k), arms a false r.if-arms_refused.left)
+      simp (lt-leb _ _ (few s (first (e k)).if-count-ge320.false), names-all (e k), arms a false r.if-arms_refused.false)
       (joined (ltb (s.args.room.arena - words_taken (hs s)) v) (ltb s.args.room.scratch v)
       ∙ (λ i. cond (ltb (s.args.room.arena - sym s.requires.1 i) (sym words i) || ltb s.args.room.scratch (sym words i)) (refused 13) (given tt))
       ∙ ap (λ (t : Bool). cond t (refused 13) (given tt)) h)
@@ -161,10 +161,10 @@ returns-3 : tie.Need-returns-then-arms_refused
 unfolding check_step
 returns-3 c =
     let b = e c.before.before in
-    simp (lt-leb _ _ (few (start b) (first b).before.if1.left), names-all b, arms c.before true c.if-arms_refused.true)
+    simp (lt-leb _ _ (few (start b) (first b).if-count-ge320.false), names-all b, arms c.before true c.if-arms_refused.true)
 
 sub-if4 : tie.Need-overflow_sub-room
-sub-if4 c = omega (arith, (s c.before).pre.2)
+sub-if4 c = omega (arith, (s c.before).requires.2)
 
 returns-4 : tie.Need-returns-then-room-next
 returns-4 c = simp (decided c.before.before.before true c.if-room-next.true)
