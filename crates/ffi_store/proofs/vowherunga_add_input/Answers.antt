@@ -10,10 +10,8 @@ pub returns : goal.returns
 returns c =
     let g = c.args in
     let r = c.add_input-r.result in
-    let d = c.add_input-r.new.1.1.1.1 in
-    let t = c.settle.new.1 in
     input-crosses g.count (fields g.starts.now g.widths.now g.signs.now g.fills.now) (lent g.arena_value.now g.arena_unknown.now)
     c.store_of-s.result c.store_of-s.ensures
-    g.h (lent g.value.now g.unknown.now) (cell_answer r.answer) (state r.store (lent d.0 d.1.0))
-    (settled c.settle.result (fields t.0 t.1.0 t.1.1.0 t.1.1.1.0))
+    g.h (lent g.value.now g.unknown.now) (cell_answer r.answer) (state r.store (lent c.add_input-r.new.av c.add_input-r.new.au))
+    (settled c.settle.result (fields c.settle.new.starts c.settle.new.widths c.settle.new.signs c.settle.new.fills))
     c.add_input-r.ensures c.settle.ensures

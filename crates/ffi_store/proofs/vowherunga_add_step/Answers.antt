@@ -19,11 +19,9 @@ pub returns-in-Op : goal.returns-in-Op
 returns-in-Op c =
     let g = c.args in
     let r = c.add_step-r.result in
-    let d = c.add_step-r.new.1.1 in
-    let t = c.settle.new.1 in
     step-crosses g.count (fields g.starts.now g.widths.now g.signs.now g.fills.now) (lent g.arena_value.now g.arena_unknown.now)
     c.store_of-s.result c.store_of-s.ensures
     (lent g.scratch_value.now g.scratch_unknown.now) c.in-Op.o (op_of g.op) g.a g.b g.c
-    (cell_answer r.answer) (memory (state r.store (lent d.0 d.1.0)) (lent d.1.1.0 d.1.1.1.0))
-    (settled c.settle.result (fields t.0 t.1.0 t.1.1.0 t.1.1.1.0))
+    (cell_answer r.answer) (memory (state r.store (lent c.add_step-r.new.av c.add_step-r.new.au)) (lent c.add_step-r.new.sv c.add_step-r.new.su))
+    (settled c.settle.result (fields c.settle.new.starts c.settle.new.widths c.settle.new.signs c.settle.new.fills))
     (sym c.in-Op.is ∙ c.op_of.ensures) c.add_step-r.ensures c.settle.ensures

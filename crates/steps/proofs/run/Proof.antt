@@ -49,7 +49,7 @@ module _ (k : tie.After-load_list-l) where
   loaded = k.load_list-l.result
 
   abbrev arenas : Planes
-  arenas = lent k.load_list-l.new.au k.load_list-l.new.1.1.0
+  arenas = lent k.load_list-l.new.av k.load_list-l.new.au
 
   abbrev left : State
   left = state (store_of loaded.inputs.count loaded.inputs.fields) arenas

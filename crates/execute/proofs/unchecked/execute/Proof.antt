@@ -77,7 +77,7 @@ module _ (w : tie.After-work_cells) where
   k = w.before.before.before.before
 
   abbrev scratch : Planes
-  scratch = lent w.work_cells.new.1.1.1.1.1.1.0 w.work_cells.new.1.1.1.1.1.1.1.0
+  scratch = lent w.work_cells.new.ov w.work_cells.new.ou
 
   worked : scratch ≡ put_planes 0 (planes_of (planned_result (step k) (table k) (memory k).arenas).bits) (memory k).scratch
   worked =

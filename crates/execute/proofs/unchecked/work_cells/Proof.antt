@@ -67,15 +67,13 @@ size w =
     let e = ap (λ (h : Header). word_count h.width) (start w).requires.1.1.1.1.1.0 in
     omega (arith, w.word_count-n.ensures, e)
 
-part-work-end : tie.Need-slice-bounds-work-end
+part-work-end : tie.Need-slice_bounds-work-end
 part-work-end c =
-    let w = c.before.before.before.before.before.before in
-    omega (arith, w.word_count.ensures, (start w).requires.1.1.1.1.1.1.0)
+    omega (arith, c.word_count-n.ensures, (start c.before.before.before.before.before.before.before.before.before.before.before.before.before.before.before).requires.1.1.1.1.1.1.0)
 
-part-work-end-2 : tie.Need-slice-bounds-work-end-2
+part-work-end-2 : tie.Need-slice_bounds-work-end-2
 part-work-end-2 c =
-    let w = c.before.before.before.before.before.before.before in
-    omega (arith, w.word_count.ensures, (start w).requires.1.1.1.1.1.1.1)
+    omega (arith, c.word_count-n.ensures, (start c.before.before.before.before.before.before.before.before.before.before.before.before.before.before.before.before).requires.1.1.1.1.1.1.1)
 
 work-requires : tie.Need-work-requires
 work-requires c κs =
@@ -117,14 +115,14 @@ returns c =
     let r = op_vector g.op (cell_vector a o.a) (cell_vector a o.b) (cell_vector a o.c) g.pos in
     let width = result-width (cell_vector a o.a) (cell_vector a o.b) (cell_vector a o.c) g.pos (length-tabulate _ _) (length-tabulate _ _) (length-tabulate _ _) g.op s.requires.1.1.1.1.0 in
     let words = size c.before.before.before.before.before.before.before.before.before.before.before.before.before.before.before.before.before.before.before.before.before.before ∙ ap word_count (sym width) in
-    let e : lent c.work.new.1.1.1.1.1.1.1.1.1.1.1.0 c.work.new.1.1.1.1.1.1.1.1.1.1.1.1.0 ≡ planes_of r.bits =
+    let e : lent c.work.new.ov c.work.new.ou ≡ planes_of r.bits =
     c.work.ensures
-    ∙ (λ c.
+    ∙ (λ k.
     planes_of
     (op_vector g.op
-    (vector o.a.header (lent (c.cell_words-xv.ensures c) (c.cell_words-xu.ensures c)))
-    (vector o.b.header (lent (c.cell_words-yv.ensures c) (c.cell_words-yu.ensures c)))
-    (vector o.c.header (lent (c.cell_words-zv.ensures c) (c.cell_words-zu.ensures c))) g.pos).bits) in
+    (vector o.a.header (lent (c.cell_words-xv.ensures k) (c.cell_words-xu.ensures k)))
+    (vector o.b.header (lent (c.cell_words-yv.ensures k) (c.cell_words-yu.ensures k)))
+    (vector o.c.header (lent (c.cell_words-zv.ensures k) (c.cell_words-zu.ensures k))) g.pos).bits) in
     front-back n _ (planes_of r.bits) (lent g.ov.now g.ou.now) e
     (words ∙ sym (value-plane r.bits).count) (words ∙ sym (unknown-plane r.bits).count)
 

@@ -27,10 +27,10 @@ module _ (f : tie.After-fill_planes) where
   st = w.before.before.before.before.before
 
   abbrev value : List ℕ
-  value = f.fill_planes.new.1.1.1.0
+  value = f.fill_planes.new.value
 
   abbrev unknown : List ℕ
-  unknown = f.fill_planes.new.1.1.1.1.0
+  unknown = f.fill_planes.new.unknown
 
   abbrev bits : List LogicBit
   bits = bits_in st.args.text.now st.args.x.place st.args.x.header.width
@@ -50,11 +50,11 @@ module _ (f : tie.After-fill_planes) where
   unknown-size : length unknown ≡ w.word_count-n.result - 0
   unknown-size = ap (λ (p : Planes). length p.unknown) filled ∙ (unknown-plane bits).count ∙ size
 
-part-take-input-end : tie.Need-slice-bounds-take-input-end
-part-take-input-end c = let f = c.before.before.before in front_long (w f).word_count-n.result (value f) _ (value-size f)
+part-take-input-end : tie.Need-slice_bounds-take_input-end
+part-take-input-end c = front_long (w c.before.before).word_count-n.result (value c.before.before) _ (value-size c.before.before)
 
-part-take-input-end-2 : tie.Need-slice-bounds-take-input-end-2
-part-take-input-end-2 c = let f = c.before.before.before.before.before in front_long (w f).word_count-n.result (unknown f) _ (unknown-size f)
+part-take-input-end-2 : tie.Need-slice_bounds-take_input-end-2
+part-take-input-end-2 c = front_long (w c.before.before.before).word_count-n.result (unknown c.before.before.before) _ (unknown-size c.before.before.before)
 
 returns : tie.Need-returns
 returns c =

@@ -107,10 +107,10 @@ module _ (a : tie.After-load_input invariant-loop decreases-loop) where
   s = state (store_of i f) (lent l.loop-i.av l.loop-i.au)
 
   abbrev left : Planes
-  left = lent a.load_input.new.1.1.1.1.0 a.load_input.new.1.1.1.1.1.0
+  left = lent a.load_input.new.av a.load_input.new.au
 
   inside : i < st.args.list.input_count
-  inside = a.loop-i-test.taken
+  inside = a.loop-i-test.true
 
   thin : Thin v.header
   thin = (st.requires.inputs i inside).1

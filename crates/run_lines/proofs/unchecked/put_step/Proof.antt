@@ -48,19 +48,19 @@ slice-aggregate-put-bits-line c = search rules
 sub-put-bits-line : tie.Need-slice_bounds-put_bits_line-count
 sub-put-bits-line c = search rules
 
-part-put-bits-line-start : tie.Need-slice-bounds-put-bits-line-start
+part-put-bits-line-start : tie.Need-slice_bounds-put_bits_line-start
 part-put-bits-line-start c = search rules
 
-part-put-bits-line-end : tie.Need-slice-bounds-put-bits-line-end
+part-put-bits-line-end : tie.Need-slice_bounds-put_bits_line-end-2
 part-put-bits-line-end c = search rules
 
 sub-put-bits-line-2 : tie.Need-slice_bounds-put_bits_line-count-2
 sub-put-bits-line-2 c = search rules
 
-part-put-bits-line-start-2 : tie.Need-slice-bounds-put-bits-line-start-2
+part-put-bits-line-start-2 : tie.Need-slice_bounds-put_bits_line-start-2
 part-put-bits-line-start-2 c = search rules
 
-part-put-bits-line-end-2 : tie.Need-slice-bounds-put-bits-line-end-2
+part-put-bits-line-end-2 : tie.Need-slice_bounds-put_bits_line-end-3
 part-put-bits-line-end-2 c = search rules
 
 put-bits-line-requires : tie.Need-put_bits_line-requires
@@ -103,11 +103,11 @@ put_step_spec =
     put-number-line-requires
     word-count-requires
     sub-put-bits-line
-    (λ c. search rules)
-    (λ c. search rules)
+    part-put-bits-line-start
+    part-put-bits-line-end
     sub-put-bits-line-2
-    (λ c. search rules)
-    (λ c. search rules)
+    part-put-bits-line-start-2
+    part-put-bits-line-end-2
     put-bits-line-requires
     same_length
     returns)

@@ -75,7 +75,7 @@ add-number c = omega (arith, few c)
 put-refused-requires-2 : tie.Need-put_refused-requires-in-Refused Inv-loop μ-loop
 put-refused-requires-2 c κs =
     let a = at-refused c in
-    let g = (start a).pre.0 in
+    let g = (start a).requires.0 in
     let i = (turn a).loop-k.inv.walked in (
       omega (arith, c.number-in-Refused.ensures, number_small c.in-Refused.r),
       omega (arith, few c),
@@ -117,7 +117,7 @@ cast-put-step c = omega (arith, below c.before.before)
 put-step-requires : tie.Need-put_step-at-requires Inv-loop μ-loop
 put-step-requires c κs =
     let a = taken c in
-    let g = (start a).pre.0 in
+    let g = (start a).requires.0 in
     let i = (turn a).loop-k.inv.walked in (
       (omega (arith, (shown c).few), omega (arith, inside a, g.0, g.1, i.short, i.long, (shown c).thin)),
       ((shown c).value-long, (shown c).unknown-long),
@@ -152,7 +152,7 @@ add-n : tie.Need-overflow_add-n Inv-loop μ-loop
 add-n c = omega (arith, below (added-at c.before.before.before.before))
 
 add-k : tie.Need-overflow_add-k Inv-loop μ-loop
-add-k c = let a = taken_at c.before.before.before.before in omega (arith, inside a, (start a).pre.0.0)
+add-k c = let a = taken_at c.before.before.before.before in omega (arith, inside a, (start a).requires.0.0)
 
 loop-less : tie.Need-loop-k-smaller Inv-loop μ-loop
 loop-less c = let a = taken_at c.before.before.before.before in omega (arith, inside a)

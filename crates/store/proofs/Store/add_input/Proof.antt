@@ -47,7 +47,7 @@ module _ (i : tie.After-take_input) where
   t = i.before.before.before
 
   abbrev left : Planes
-  left = lent i.take_input.new.1.1.1.1.1.0 i.take_input.new.1.1.1.1.1.1.0
+  left = lent i.take_input.new.av i.take_input.new.au
 
   told : (x : PlaceAnswer) → i.take_input.result ≡ x
       → let s = all (k t) in outcome (place_answer x) left ≡ take_input s.store.count (next_word s.store) (st (k t)).args.h (input (k t)) s.arenas

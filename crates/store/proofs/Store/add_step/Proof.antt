@@ -59,8 +59,7 @@ module _ (i : tie.After-take_step) where
 
   abbrev left : Store → Memory
   left s =
-      let r = i.take_step.new.1.1.1.1.1.1.1 in
-      memory (state s (lent r.0 r.1.0)) (lent r.1.1.0 r.1.1.1.0)
+      memory (state s (lent i.take_step.new.av i.take_step.new.au)) (lent i.take_step.new.sv i.take_step.new.su)
 
   told : (x : StepAnswer) → i.take_step.result ≡ x
       → outcome (taken_answer (st (b f)).args.self.count x) (left (taken_store x (st (b f)).args.self)) ≡ add_step before (st (b f)).args.step

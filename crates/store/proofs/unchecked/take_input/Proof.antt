@@ -67,7 +67,7 @@ copy-behind-requires : tie.Need-copy_behind-requires
 copy-behind-requires c κs =
     let s = (sound c.before.before.before).planes in
     let n = c.word_count.ensures in
-    let g = (st (p c.before.before.before)).pre in (
+    let g = (st (p c.before.before.before)).requires in (
       (omega (arith, n, s.value-plane.count), omega (arith, n, s.unknown-plane.count)),
       (
         omega (arith, n, (accepted c.before.before.before).1, (found c.before.before.before).1, g.0),
