@@ -10,30 +10,18 @@ use Rattle.text.specs.Answers.{bits_in}
 use Rattle.text.proofs.Characters.{length-in, word-at}
 use Rattle.text.proofs.unchecked.fill_planes.Goals as goal
 
--- src/unchecked.rt:65:5
 pub loop-k-init : goal.loop-k-init
 loop-k-init c = (omega arith, omega arith, start refl, start refl)
 
--- src/unchecked.rt:66:13
--- src/unchecked.rt:67:9
 pub overflow_sub-left : goal.overflow_sub-left
 overflow_sub-left c = omega arith
 
--- src/unchecked.rt:68:30
 pub overflow_add-place : goal.overflow_add-place
 overflow_add-place c = omega arith
 
--- src/unchecked.rt:68:13
 pub read_word-x-requires : goal.read_word-x-requires
 read_word-x-requires c = (omega arith, omega arith)
 
--- src/unchecked.rt:69:9
--- src/unchecked.rt:69:9
--- src/unchecked.rt:70:9
--- src/unchecked.rt:70:9
--- src/unchecked.rt:71:9
--- src/unchecked.rt:65:5
--- src/unchecked.rt:65:5
 pub loop-k-preserved : goal.loop-k-preserved
 loop-k-preserved c =
     let a = c.args in
@@ -51,9 +39,6 @@ loop-k-preserved c =
           (ap (λ (y : Word). y.unknown) x ∙ word-at unknown_digit s a.place a.width k n (left - n) c.requires.width_in_bounds e f),
     )
 
--- src/unchecked.rt:58:1
--- src/unchecked.rt:58:1
--- src/unchecked.rt:58:1
 pub returns : goal.returns
 returns c =
     let a = c.args in
