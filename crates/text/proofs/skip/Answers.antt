@@ -14,9 +14,6 @@ returns-then-s-i c = rw (c.loop-j.invariant.1, key-ends _ _ _ _ c.loop-j-test.tr
 pub bounds-s-i : goal.bounds-s-i
 bounds-s-i c = omega arith
 
-pub bounds-key-j : goal.bounds-key-j
-bounds-key-j c = omega arith
-
 pub returns-then-s-i-2 : goal.returns-then-s-i-2
 returns-then-s-i-2 c =
     let a = c.args in
