@@ -1,6 +1,5 @@
 -- `bits::unchecked::extract64`: each plane's word, masked.
 use mathlib.Core.Path.{refl, ap₂, ◌∙◌}
-use Prim.Native.Nat.{◌-◌}
 use lib.Bits.{bit_and}
 use Rattle.words.specs.Planes.{value_digit, unknown_digit, word_by}
 use Rattle.words.proofs.Planes.{value-digit-lt, unknown-digit-lt}

@@ -1,7 +1,7 @@
 -- `bits::unchecked::splice64`: each plane by its digit; at or above the width nothing.
 use Rattle.words.specs.Vector.{bit_at}
 use mathlib.Core.Path.{◌≡◌, refl, sym, ap, ap₂, ◌∙◌}
-use Prim.Native.Nat.{ℕ, ◌-◌, ◌<◌, min}
+use Prim.Native.Nat.{ℕ, ◌<◌, min}
 use native.Mathlib.Omega.{arith}
 use Rattle.words.specs.Planes.{value_digit, unknown_digit, from_planes, lent, planes_of}
 use Rattle.bits.specs.Bits.{spliced_plane, splice_count}

@@ -1,7 +1,7 @@
 -- `words::unchecked::copy_front`: the first i words are copied (`paste`).
 use mathlib.Core.Path.{◌≡◌, refl, sym, ap, ◌∙◌}
 use mathlib.Core.List.{List, ◌++◌}
-use Prim.Native.Nat.{ℕ, ◌<◌, ◌+◌, ◌-◌}
+use Prim.Native.Nat.{ℕ, ◌<◌, ◌+◌}
 use native.Mathlib.Nat.{zero-add}
 use native.Mathlib.Numerals.{add-one}
 use native.Mathlib.Omega.{arith}
@@ -23,12 +23,11 @@ more d s l j e h k =
     ∙ ap (paste d 0 s) (sym (add-one j))
 
 pub loop-i-preserved : goal.loop-i-preserved
-loop-i-preserved c =
-    (
-      more c.args.plane.now c.args.from.now c.loop-i.plane c.loop-i.i c.loop-i.invariant.0 (search rules) (search rules),
-      search rules,
-      simp length-set (omega arith),
-    )
+loop-i-preserved c = (
+  more c.args.plane.now c.args.from.now c.loop-i.plane c.loop-i.i c.loop-i.invariant.0 (search rules) (search rules),
+  search rules,
+  simp length-set (omega arith),
+)
 
 done : (d s l : List ℕ) (j n : ℕ) → l ≡ paste d 0 s j → j ≡ n → l ≡ take n s ++ drop n d
 done d s l j n e h = e ∙ ap (paste d 0 s) h ∙ ap (λ (k : ℕ). take n s ++ drop k d) (zero-add n)
