@@ -22,7 +22,7 @@ use Rattle.store.proofs.Store.add_input.Statement.{statement}
 use Rattle.store.proofs.Store.add_input.Tie as tie
 
 abbrev st : tie.After-check_cells → tie.Start
-st k = k.before.before.before.before.before.before.before.before
+st k = k.before.before.before.before.before.before
 
 abbrev all : tie.After-check_cells → State
 all k = state (st k).args.self (lent (st k).args.av.now (st k).args.au.now)
@@ -31,7 +31,7 @@ abbrev input : tie.After-check_cells → Planes
 input k = lent (st k).args.value.now (st k).args.unknown.now
 
 places : (k : tie.After-check_cells) → length (st k).args.self.cells ≡ 320
-places k = simp length-map at (st k).well-formed.0.1.1.0.1.0.1
+places k = (st k).well_formed.0.1.1.0.1.0.1
 
 -- not 14
 module _ (t : tie.In-At) where
@@ -78,8 +78,7 @@ returns c =
 returns-2 : tie.Need-returns-in-Refused-take_input
 returns-2 c =
     let b = k (t c.before.before.before.before.before) in
-    let r = c.known_told-in-Refused-take_input-1.given in
-    (input-refused (all b) (st b).args.h (input b) (places b) (found (t c.before.before.before.before.before)).0 (refusal_number r.0.0) (left c.before.before.before.before.before) (told c.before.before.before.before.before (Refused r.0.0) r.1)).1
+    (input-refused (all b) (st b).args.h (input b) (places b) (found (t c.before.before.before.before.before)).0 (refusal_number c.in-Refused-take_input.r) (left c.before.before.before.before.before) (told c.before.before.before.before.before (Refused c.in-Refused-take_input.r) c.in-Refused-take_input.is)).1
 
 returns-3 : tie.Need-returns-in-At-take_input
 returns-3 c =

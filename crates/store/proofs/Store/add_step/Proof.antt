@@ -20,7 +20,7 @@ use Rattle.store.proofs.Store.add_step.Statement.{statement}
 use Rattle.store.proofs.Store.add_step.Tie as tie
 
 abbrev st : tie.After-check_cells → tie.Start
-st k = k.before.before.before.before.before.before.before.before
+st k = k.before.before.before.before.before.before
 
 abbrev scratch : tie.After-check_cells → Planes
 scratch k = lent (st k).args.sv.now (st k).args.su.now
@@ -29,7 +29,7 @@ abbrev all : tie.After-check_cells → State
 all k = state (st k).args.self (lent (st k).args.av.now (st k).args.au.now)
 
 places : (k : tie.After-check_cells) → length (st k).args.self.cells ≡ 320
-places k = simp length-map at (st k).well-formed.0.1.1.0.1.0.1
+places k = (st k).well_formed.0.1.1.0.1.0.1
 
 -- not 14
 module _ (t : tie.In-At) where
@@ -42,7 +42,7 @@ module _ (t : tie.In-At) where
 -- the four arrays are those of the store
 module _ (f : tie.After-fields_of-f) where
   abbrev b : tie.After-check_cells
-  b = k f.before.before
+  b = k f.before
 
   same : (st b).args.self ≡ store_of (st b).args.self.count f.fields_of-f.result
   same =
@@ -71,10 +71,10 @@ module _ (i : tie.After-take_step) where
 
 -- where it is refused, and where it has added a cell
 abbrev refused-at : tie.In-Refused-take_step → tie.After-take_step
-refused-at c = c.before.before.before.before.before.before.before.before.before.before.before
+refused-at c = c.before.before.before.before.before.before.before.before.before
 
 abbrev added-at : tie.After-with_cell → tie.After-take_step
-added-at c = c.before.before.before.before.before.before.before.before.before.before.before.before
+added-at c = c.before.before.before.before.before.before.before.before.before.before
 
 take-step-requires : tie.Need-take_step-requires
 take-step-requires c κs =
@@ -82,8 +82,7 @@ take-step-requires c κs =
 
 with-cell-requires : tie.Need-with_cell-requires
 with-cell-requires c κs =
-    let a = c.known_told-in-Added-1.given in
-    step-few (before c.before.before.before.before.before.before.before.before.before) _ (st (b (f c.before.before.before.before.before.before.before.before.before))).args.step _ (places (b (f c.before.before.before.before.before.before.before.before.before))) (told c.before.before.before.before.before.before.before.before.before (Added a.0.0) a.1)
+    step-few (before c.before.before.before.before.before.before.before.before.before) _ (st (b (f c.before.before.before.before.before.before.before.before.before))).args.step _ (places (b (f c.before.before.before.before.before.before.before.before.before))) (told c.before.before.before.before.before.before.before.before.before (Added c.in-Added.c) c.in-Added.is)
 
 returns : tie.Need-returns-in-Refused
 returns c =
@@ -93,8 +92,7 @@ returns c =
 
 returns-2 : tie.Need-returns-in-Refused-take_step
 returns-2 c =
-    let r = c.known_told-in-Refused-take_step-1.given in
-    told (refused-at c) (Refused r.0.0) r.1
+    told (refused-at c) (Refused c.in-Refused-take_step.r) c.in-Refused-take_step.is
 
 returns-3 : tie.Need-returns-in-Added
 returns-3 c =
@@ -117,13 +115,13 @@ add_step_spec =
     (λ c. search rules)
     (λ c. search rules)
     returns
-    (λ c. (refused-at c).take_step.kept.1.1.1.1.1.1.1.0)
-    (λ c. (refused-at c).take_step.kept.1.1.1.1.1.1.1.1.0)
-    (λ c. (refused-at c).take_step.kept.1.1.1.1.1.1.1.1.1.0)
-    (λ c. (refused-at c).take_step.kept.1.1.1.1.1.1.1.1.1.1.0)
+    (λ c. (refused-at c).take_step.auto.av)
+    (λ c. (refused-at c).take_step.auto.au)
+    (λ c. (refused-at c).take_step.auto.sv)
+    (λ c. (refused-at c).take_step.auto.su)
     returns-2
-    (λ c. (added-at c).take_step.kept.1.1.1.1.1.1.1.0)
-    (λ c. (added-at c).take_step.kept.1.1.1.1.1.1.1.1.0)
-    (λ c. (added-at c).take_step.kept.1.1.1.1.1.1.1.1.1.0)
-    (λ c. (added-at c).take_step.kept.1.1.1.1.1.1.1.1.1.1.0)
+    (λ c. (added-at c).take_step.auto.av)
+    (λ c. (added-at c).take_step.auto.au)
+    (λ c. (added-at c).take_step.auto.sv)
+    (λ c. (added-at c).take_step.auto.su)
     returns-3)

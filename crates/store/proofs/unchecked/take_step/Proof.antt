@@ -68,7 +68,7 @@ module _ (k : tie.After-plan_step) where
 -- nothing was refused
 module _ (t : tie.In-Planned) where
   abbrev from : tie.Start
-  from = s t.before.before.before.before.before.before.before
+  from = s t.before
 
   abbrev p : PlannedStep
   p = t.in-Planned.p
@@ -76,7 +76,7 @@ module _ (t : tie.In-Planned) where
   found : (check from ≡ given tt) × (planned (hs from) from.args.step ≡ p)
   found =
       answer-given (check from) (planned (hs from) from.args.step) p
-      (sym (told t.before.before.before) ∙ ap plan_answer t.in-Planned.is)
+      (sym (told t.before) ∙ ap plan_answer t.in-Planned.is)
 
 plan-step-requires : tie.Need-plan_step-requires
 plan-step-requires c κs =
