@@ -5,8 +5,8 @@ use Rattle.run_lines.specs.Output.{done_key, done_text}
 use Rattle.run_lines.proofs.Room.{decimal-three}
 use Rattle.run_lines.proofs.unchecked.put_done.Goals as goal
 
-pub shape_of-out : goal.shape_of-out
-shape_of-out c = omega (arith, length-line done_key c.args.k, decimal-three c.args.k c.requires.0, c.requires.1)
+pub put_number_line-requires : goal.put_number_line-requires
+put_number_line-requires c = omega (arith, length-line done_key c.args.k, decimal-three c.args.k c.requires.0, c.requires.1)
 
 pub returns : goal.returns
 unfolding done_text

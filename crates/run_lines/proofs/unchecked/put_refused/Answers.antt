@@ -7,12 +7,12 @@ use Rattle.run_lines.specs.Output.{refused_key, step_key, refused_text}
 use Rattle.run_lines.proofs.Room.{decimal-two, decimal-three}
 use Rattle.run_lines.proofs.unchecked.put_refused.Goals as goal
 
-pub put_number_line-requires : goal.put_number_line-requires
-put_number_line-requires c =
+pub put_number_line-i-requires : goal.put_number_line-i-requires
+put_number_line-i-requires c =
     omega (arith, length-line refused_key c.args.n, decimal-two c.args.n c.requires.0, c.requires.2)
 
-pub returns : goal.returns
-returns c =
+pub put_number_line-requires : goal.put_number_line-requires
+put_number_line-requires c =
     let a = c.args in
     omega (
       arith,
@@ -22,7 +22,7 @@ returns c =
       decimal-three a.k c.requires.1,
       c.requires.2,
       place_of a.out.now a.at (refused_key ++ number_text a.n) c.put_number_line-i.ensures,
-      c.put_number_line-i.auto.0,
+      c.put_number_line-i.auto.out,
     )
 
 pub returns : goal.returns
