@@ -1,13 +1,11 @@
 -- `bitwise_words::result_header`: by the operator.
-use mathlib.Core.Path.{◌≡◌, refl, ap₂, ◌∙◌}
+use mathlib.Core.Path.{◌≡◌, ap₂, ◌∙◌}
 use mathlib.Core.Logic.{◌⊎◌, ⊎_elim}
 use mathlib.Core.Bool.{Bool, false}
-use mathlib.Core.List.{[], ◌∷◌}
 use Prim.Native.Nat.{ℕ}
 use Rattle.value.specs.declared.Header.{Header}
 use Rattle.lanes.specs.declared.Bitwise.{Bitwise}
-use Rattle.lanes.specs.declared.Bitwise.TheVariants.{And, Or, Xor, Merge}
-use Rattle.lanes.specs.contracts.Bitwise.{the_type}
+use Rattle.lanes.specs.declared.Bitwise.TheVariants.{And, Or, Xor}
 use Rattle.bitwise_words.specs.Joined.{result_signed}
 use Rattle.bitwise_words.proofs.result_header.Goals as goal
 

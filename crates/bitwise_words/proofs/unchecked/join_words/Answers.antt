@@ -1,7 +1,6 @@
 -- `bitwise_words::unchecked::join_words`: the words below k are the lanes of the operands' words.
 use Rattle.lanes.proofs.Places.{fewer}
 use mathlib.Core.Path.{refl, ap}
-use Prim.Native.Nat.{◌-◌}
 use native.Mathlib.Omega.{arith}
 use Rattle.words.specs.declared.Word.{Word}
 use Rattle.words.proofs.Fill.{start, more}
@@ -11,12 +10,11 @@ pub loop-k-init : goal.loop-k-init
 loop-k-init c = (omega arith, start refl, start refl)
 
 pub loop-k-preserved : goal.loop-k-preserved
-loop-k-preserved c =
-    (
-      omega arith,
-      more c.loop-k.invariant.1 (omega (arith, c.requires)) (ap (λ (w : Word). w.value) c.lanes-r.ensures),
-      more c.loop-k.invariant.2 (omega (arith, c.requires)) (ap (λ (w : Word). w.unknown) c.lanes-r.ensures),
-    )
+loop-k-preserved c = (
+  omega arith,
+  more c.loop-k.invariant.1 (omega (arith, c.requires)) (ap (λ (w : Word). w.value) c.lanes-r.ensures),
+  more c.loop-k.invariant.2 (omega (arith, c.requires)) (ap (λ (w : Word). w.unknown) c.lanes-r.ensures),
+)
 
 pub returns : goal.returns
 returns c =
