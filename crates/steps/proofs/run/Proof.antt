@@ -87,31 +87,27 @@ returns c =
 
 -- the steps are run
 abbrev ran : tie.After-store_of-in-Accepted → tie.After-run_steps-p
-ran c = c.before.before.before.before.before.before.before.before.before.before.before.before.before.before.before
+ran c = c.before.before.before.before.before.before.before.before.before.before.before.before.before.before
 
 same-length-3 : tie.Need-shape_of-av-in-Accepted
 same-length-3 c =
     let r = ran c in
-    let a = r.before.before.before.before.before.before in
-    r.run-steps.kept.1.1.0 ∙ (l a).load_list-l.kept.1.0
+    r.run_steps-p.auto.av ∙ (l r.before.before.before.before.before.before.before).load_list-l.kept.1.0
 
 same-length-4 : tie.Need-shape_of-au-in-Accepted
 same-length-4 c =
     let r = ran c in
-    let a = r.before.before.before.before.before.before in
-    r.run-steps.kept.1.1.1.0 ∙ (l a).load_list-l.kept.1.1.0
+    r.run_steps-p.auto.au ∙ (l r.before.before.before.before.before.before.before).load_list-l.kept.1.1.0
 
 returns-2 : tie.Need-returns-in-Accepted
 returns-2 c =
     let r = ran c in
-    let a = r.before.before.before.before.before.before in
-    let k = l a in
-    let p = r.run-steps.last.1.1 in
-    let x = r.run-steps.result in
-    ap (λ (z : Store). final (memory (state z (lent p.0 p.1.0)) (lent p.1.1.0 p.1.1.1.0)) (buffer p.1.1.1.1.0 x.length) (ending_of x.ending)) c.store_of-in-Accepted.ensures
-    ∙ r.run-steps.ensures
+    let k = l r.before.before.before.before.before.before.before in
+    let x = r.run_steps-p.result in
+    ap (λ (z : Store). final (memory (state z (lent r.run_steps-p.new.av r.run_steps-p.new.au)) (lent r.run_steps-p.new.sv r.run_steps-p.new.su)) (buffer r.run_steps-p.new.out x.length) (ending_of x.ending)) c.store_of-in-Accepted.ensures
+    ∙ r.run_steps-p.ensures
     ∙ ap (λ (y : Ran). final_of y (out k))
-    (accepted-load (empty k) (left k) (scratch k) (whole (text k)) (list_in (text k) (loaded k).list) (told k Accepted a.enum_told.given.1) (listed a))
+    (accepted-load (empty k) (left k) (scratch k) (whole (text k)) (list_in (text k) (loaded k).list) (told k Accepted r.in-Accepted.is) (listed r.before.before.before.before.before.before.before))
 
 pub run_spec : {M : Type 1} → statement M
 run_spec =

@@ -221,7 +221,7 @@ returns-2 c =
 loop-again : tie.Need-loop-i-preserved invariant-loop decreases-loop
 loop-again c =
     let a = b c.before.before in
-    let kept = a.load_input.kept.1.1.1.1 in
+    let kept = a.load_input.auto.1.1.1.1 in
     let w : at c.before.before + c.word_count.result ≡ at c.before.before + word_count (h c.before.before).width = ap (λ (n : ℕ). at c.before.before + n) c.word_count.ensures in
     let x = ap (λ (z : Store). outcome (given (i a)) (state z (left a))) (sym (with-fields (f a) (i a) (cell c.before.before) (l a).loop-i.inv.fitted.whole (is c.before.before).few)) ∙ (is c.before.before).added in
     record {
@@ -256,7 +256,7 @@ element-write-f-4 c = omega (arith, (is c.before).few)
 add-next : tie.Need-overflow_add-next invariant-loop decreases-loop
 add-next c =
     let a = b c.before.before in
-    omega (arith, within c.before.before, c.word_count.ensures, a.load_input.kept.1.1.1.1.0, (l a).loop-i.inv.value-long, (st a).good.1.1.0)
+    omega (arith, within c.before.before, c.word_count.ensures, a.load_input.auto.av, (l a).loop-i.inv.value-long, (st a).good.1.1.0)
 
 add-i : tie.Need-overflow_add-i invariant-loop decreases-loop
 add-i c = omega (arith, (is c.before.before).few)

@@ -84,7 +84,7 @@ put-refused-requires-2 c κs =
 
 -- the step that was refused, where the pass ends
 abbrev at-end : tie.After-slice_known-in-Refused-1 Inv-loop μ-loop → tie.After-take_step Inv-loop μ-loop
-at-end c = at-refused c.before.before.before.before.before
+at-end c = at-refused c.before.before.before.before.before.before.before.before.before.before.before.before.before.before
 
 same-length-2 : tie.Need-shape_of-av-in-Refused Inv-loop μ-loop
 same-length-2 c = value-kept (at-end c)
@@ -99,7 +99,7 @@ same-length-5 : tie.Need-shape_of-su-in-Refused Inv-loop μ-loop
 same-length-5 c = scratch-unknown-kept (at-end c)
 
 same-length-6 : tie.Need-shape_of-out-in-Refused Inv-loop μ-loop
-same-length-6 c = c.put_refused-in-Refused.auto.0 ∙ (turn (at-end c)).loop-k.inv.out-long
+same-length-6 c = c.put_refused-in-Refused.auto.out ∙ (turn (at-end c)).loop-k.inv.out-long
 
 returns-2 : tie.Need-returns-in-Refused Inv-loop μ-loop
 returns-2 c =
@@ -167,7 +167,7 @@ loop-again c =
     let a = taken_at c in
     let s = start a in
     let i = (turn a).loop-k.inv in
-    let same : length (bytes c) ≡ length (turn a).loop-k.out = c.put_step-at.auto.0 in
+    let same : length (bytes c) ≡ length (turn a).loop-k.out = c.put_step-at.auto.out in
     let g = put_fields (fields a) (filled a) (cell r) in
     let x : (cell r).start + c.word_count.result ≡ (cell r).start + word_count (cell r).header.width = ap (λ (j : ℕ). (cell r).start + j) c.word_count.ensures in
     let called =
@@ -211,7 +211,7 @@ same-length-10 : tie.Need-shape_of-su Inv-loop μ-loop
 same-length-10 c = (looped c).loop-k.invariant.scratch-unknown-long
 
 same-length-11 : tie.Need-shape_of-out Inv-loop μ-loop
-same-length-11 c = c.put_done.auto.0 ∙ (looped c).loop-k.invariant.out-long
+same-length-11 c = c.put_done.auto.out ∙ (looped c).loop-k.invariant.out-long
 
 returns-3 : tie.Need-returns Inv-loop μ-loop
 returns-3 c =
