@@ -55,10 +55,9 @@ load-inputs-requires c κs =
 
 returns : tie.Need-returns-in-Refused
 returns c =
-    let r = c.known_told-1.given in
     let n = none (arenas c.before.before.before) c.no_fields-none.result c.no_fields-none.ensures in
-    let e : refused (refusal_number r.0.0) ≡ whole (text c.before.before.before) = told c.before.before.before (Refused r.0.0) r.1 in (
-      ap (outcome (refused (refusal_number r.0.0))) n.0 ∙ ap (load_list (state empty_store (arenas c.before.before.before))) e,
+    let e : refused (refusal_number c.in-Refused.r) ≡ whole (text c.before.before.before) = told c.before.before.before (Refused c.in-Refused.r) c.in-Refused.is in (
+      ap (outcome (refused (refusal_number c.in-Refused.r))) n.0 ∙ ap (load_list (state empty_store (arenas c.before.before.before))) e,
       (refl, n.1),
     )
 

@@ -9,6 +9,5 @@ returns-in-Refused c = rw (c.in-Refused.is, c.number.ensures)
 
 pub returns-in-Added : goal.returns-in-Added
 returns-in-Added c =
-    let n = c.known_told-in-Added-1 in
-    let r : CellResult = record { refusal = 0; cell = n.given.0.0 } in
-    rw n.given.1 (ap (settled r) c.save.ensures)
+    let r : CellResult = record { refusal = 0; cell = c.in-Added.n } in
+    rw c.in-Added.is (ap (settled r) c.save.ensures)

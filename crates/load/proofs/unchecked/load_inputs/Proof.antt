@@ -167,7 +167,7 @@ module _ (r : tie.In-At invariant-loop decreases-loop) where
 
   more : Laid (put_fields (f b) (i b) cell) (i b + 1) (at + word_count h.width) (left b)
   more =
-      lay-more (f b) (i b) cell (l b).loop-i.inv.fitted.whole is.few (left b) is.begins
+      lay-more (f b) (i b) cell (l b).loop-i.invariant.fitted.whole is.few (left b) is.begins
       (input-agrees (s b) (state (with_cell cell (s b).store) (left b)) (v b) (i b) (places b) (width b) is.added (laid b).agreed)
 
   within : at + word_count h.width ≤ length (left b).value
@@ -176,8 +176,8 @@ module _ (r : tie.In-At invariant-loop decreases-loop) where
 returns : tie.Need-returns-then-list-av invariant-loop decreases-loop
 returns c =
     let g = (begin c.before).args in
-    let n = g.t1.input_count in
-    let x = input g.text.now g.t1 in
+    let n = g.list.input_count in
+    let x = input g.text.now g.list in
     let u = uneven n (length g.av.now) (length g.au.now) c.if-list-av.true in
     let s = state (store_of 0 c.no_fields-f.result) (lent-arenas c.before) in
     let e = (store-refused s 14 (state-uneven s u.1)).0 (x 0).header (planes_of (x 0).bits) in
@@ -190,7 +190,7 @@ loop-holds c =
       value-long = refl;
       unknown-long = refl;
       within = omega arith;
-      level = even g.t1.input_count (length g.av.now) (length g.au.now) c.if-list-av.false;
+      level = even g.list.input_count (length g.av.now) (length g.au.now) c.if-list-av.false;
       fitted = none-fitted c.before;
       fed = none-fed c.before;
     }
@@ -214,24 +214,23 @@ returns-2 c =
     let a = at-refused c in
     let p = planes_of (v a).bits in
     let e = input-refused (s a) (v a).header p (places a) (laid a).agreed (number c) (left a) (not_taken c) in (
-      feed-last (st a).args.t1.input_count (vectors a) (from a) (s a) (i a) (l a).loop-i.inv.fed (inside a) (number c) (state (store_of (i a) (f a)) (left a)) e.1,
-      subst (Fitted (f a) (i a) (l a).loop-i.next) (sym e.0) (l a).loop-i.inv.fitted,
+      feed-last (st a).args.list.input_count (vectors a) (from a) (s a) (i a) (l a).loop-i.invariant.fed (inside a) (number c) (state (store_of (i a) (f a)) (left a)) e.1,
+      subst (Fitted (f a) (i a) (l a).loop-i.next) (sym e.0) (l a).loop-i.invariant.fitted,
     )
 
 loop-again : tie.Need-loop-i-preserved invariant-loop decreases-loop
 loop-again c =
     let a = b c.before.before in
-    let kept = a.load_input.auto.1.1.1.1 in
     let w : at c.before.before + c.word_count.result ≡ at c.before.before + word_count (h c.before.before).width = ap (λ (n : ℕ). at c.before.before + n) c.word_count.ensures in
-    let x = ap (λ (z : Store). outcome (given (i a)) (state z (left a))) (sym (with-fields (f a) (i a) (cell c.before.before) (l a).loop-i.inv.fitted.whole (is c.before.before).few)) ∙ (is c.before.before).added in
+    let x = ap (λ (z : Store). outcome (given (i a)) (state z (left a))) (sym (with-fields (f a) (i a) (cell c.before.before) (l a).loop-i.invariant.fitted.whole (is c.before.before).few)) ∙ (is c.before.before).added in
     record {
-      value-long = kept.0 ∙ (l a).loop-i.inv.value-long;
-      unknown-long = kept.1.0 ∙ (l a).loop-i.inv.unknown-long;
+      value-long = a.load_input.auto.av ∙ (l a).loop-i.invariant.value-long;
+      unknown-long = a.load_input.auto.au ∙ (l a).loop-i.invariant.unknown-long;
       within = omega (arith, inside a);
-      level = λ z. kept.0 ∙ level a ∙ sym kept.1.0;
-      fitted = fitted-more (f a) (i a) (l a).loop-i.next (s a).arenas (l a).loop-i.inv.fitted (is c.before.before).few (cell c.before.before) (thin a) _ (left a) w (more c.before.before);
+      level = λ z. a.load_input.auto.av ∙ level a ∙ sym a.load_input.auto.au;
+      fitted = fitted-more (f a) (i a) (l a).loop-i.next (s a).arenas (l a).loop-i.invariant.fitted (is c.before.before).few (cell c.before.before) (thin a) _ (left a) w (more c.before.before);
       fed =
-          feed-more (st a).args.t1.input_count (vectors a) (from a) (s a) (i a) (l a).loop-i.inv.fed (inside a) (i a)
+          feed-more (st a).args.list.input_count (vectors a) (from a) (s a) (i a) (l a).loop-i.invariant.fed (inside a) (i a)
           (state (store_of (i a + 1) (put_fields (f a) (i a) (cell c.before.before))) (left a)) x;
     }
 
@@ -256,7 +255,7 @@ element-write-f-4 c = omega (arith, (is c.before).few)
 add-next : tie.Need-overflow_add-next invariant-loop decreases-loop
 add-next c =
     let a = b c.before.before in
-    omega (arith, within c.before.before, c.word_count.ensures, a.load_input.auto.av, (l a).loop-i.inv.value-long, (st a).good.1.1.0)
+    omega (arith, within c.before.before, c.word_count.ensures, a.load_input.auto.av, (l a).loop-i.invariant.value-long, (st a).well_formed.1.1.0)
 
 add-i : tie.Need-overflow_add-i invariant-loop decreases-loop
 add-i c = omega (arith, (is c.before.before).few)
@@ -267,8 +266,8 @@ loop-less c = omega (arith, inside (b c.before.before))
 returns-3 : tie.Need-returns invariant-loop decreases-loop
 returns-3 c =
     let a = c.args in
-    let n = a.t1.input_count in
-    let x = input a.text.now a.t1 in (
+    let n = a.list.input_count in
+    let x = input a.text.now a.list in (
       feed-done n x (state empty_store (lent a.av.now a.au.now)) (state (store_of c.loop-i.i c.loop-i.f) (lent c.loop-i.av c.loop-i.au)) c.loop-i.i
           c.loop-i.invariant.fed c.loop-i-test.false,
       c.loop-i.invariant.fitted,
