@@ -1,6 +1,5 @@
 -- The invariant: the rest of the plane is as the whole.
 use mathlib.Core.Path.{refl, sym, ◌∙◌}
-use Prim.Native.Nat.{◌-◌}
 use native.Mathlib.Omega.{arith}
 use Rattle.agreement.proofs.Turns.{done, same, other}
 use Rattle.agreement.proofs.holds.Goals as goal

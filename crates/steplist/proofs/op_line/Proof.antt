@@ -53,4 +53,3 @@ op_line_spec = tie.close (tie.spec
     (λ c. search rules)
     op-at-requires
     returns)
-

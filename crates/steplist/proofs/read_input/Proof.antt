@@ -52,4 +52,3 @@ read_input_spec =
     (λ c κs. search rules)
     add-t18
     returns)
-

@@ -62,4 +62,3 @@ read_list_spec =
     read-steps-requires
     returns
     returns-2)
-

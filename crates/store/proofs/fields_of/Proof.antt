@@ -4,7 +4,7 @@ use Prim.Native.Nat.{ℕ, ◌≤◌, ◌-◌}
 use native.Mathlib.Omega.{arith}
 use borrow.Author.Rules.{rules}
 use mathlib.Core.Bool.{false}
-use lib.ListN.{length, get_or, length-map}
+use lib.ListN.{length, get_or}
 use Rattle.words.specs.Vector.{FilledTo}
 use Rattle.words.proofs.Fill.{start, more, map-done}
 use Rattle.store.specs.declared.Store.{Store}

@@ -1,7 +1,6 @@
 -- `store::store_of`: the first i places are filled.
 use mathlib.Core.Path.{◌≡◌, ap, ◌∙◌}
 use mathlib.Core.List.{List}
-use Prim.Native.Nat.{◌-◌}
 use native.Mathlib.Omega.{arith}
 use lib.ListN.{length, length-replicate}
 use Rattle.words.proofs.Fill.{start, more, done}
