@@ -1,5 +1,5 @@
 // The calls that tell which rule decided a comparison, by their numbers in `replay`.
-use crate::bits::number;
+use crate::lent_bits::number;
 use abi::{decision_result, operand};
 use agreement::{Field, is_decision};
 use fourstate::compare;

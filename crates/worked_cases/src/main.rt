@@ -13,9 +13,9 @@ ghost use Rattle.std.specs.Prelude.{◌≤◌, length, IfOk};
 
 mod answer_bits;
 mod arms;
-mod bits;
-mod constructors;
 mod decisions;
+mod lent_bits;
+mod new_vectors;
 mod vectors;
 
 use agreement::Field;
@@ -28,13 +28,13 @@ use std::rt::Files;
 // Whether a call, by its number in `replay`, has the line's answer; its first operand is lent.
 fn has_answer(call: usize, line: &[u8], a: Field, value: &mut [u64], unknown: &mut [u64]) -> bool {
     if call < 2 {
-        return bits::reads(call, line, a.header, value, unknown);
+        return lent_bits::reads(call, line, a.header, value, unknown);
     }
     if call < 6 {
-        return bits::writes(call, line, a.header, value, unknown);
+        return lent_bits::writes(call, line, a.header, value, unknown);
     }
     if call < 10 {
-        return constructors::makes(call, line, a.header, value, unknown);
+        return new_vectors::makes(call, line, a.header, value, unknown);
     }
     if call < 21 {
         return answer_bits::answers(call, line, a, value, unknown);

@@ -1,6 +1,5 @@
 -- `not_bits`: the words below k are those of the inverted vector.
 use mathlib.Core.Path.{◌≡◌, refl, sym, ap, ap₂, ◌∙◌}
-use Prim.Native.Nat.{◌-◌}
 use native.Mathlib.Omega.{arith}
 use lib.ListN.{length}
 use Rattle.words.specs.declared.Word.{Word}
@@ -14,12 +13,11 @@ pub loop-k-init : goal.loop-k-init
 loop-k-init c = (omega arith, start refl, start refl)
 
 pub loop-k-preserved : goal.loop-k-preserved
-loop-k-preserved c =
-    (
-      omega arith,
-      more c.loop-k.invariant.1 (omega arith) (ap (λ (x : Word). x.value) c.not_word-x.ensures),
-      more c.loop-k.invariant.2 (omega (arith, c.requires.ov_len.0, c.requires.ov_len.1)) (ap (λ (x : Word). x.unknown) c.not_word-x.ensures),
-    )
+loop-k-preserved c = (
+  omega arith,
+  more c.loop-k.invariant.1 (omega arith) (ap (λ (x : Word). x.value) c.not_word-x.ensures),
+  more c.loop-k.invariant.2 (omega (arith, c.requires.ov_len.0, c.requires.ov_len.1)) (ap (λ (x : Word). x.unknown) c.not_word-x.ensures),
+)
 
 pub returns : goal.returns
 returns c =

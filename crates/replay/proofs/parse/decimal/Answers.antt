@@ -1,5 +1,5 @@
 -- The invariant: the digits that are left.
-use Rattle.std.proofs.Common.{ℕ, ◌+◌, ◌-◌, ◌%◌, ◌^◌, List, get_or, drop, sym, refl, ap, ◌∙◌, arith}
+use Rattle.std.proofs.Common.{ℕ, ◌+◌, ◌%◌, ◌^◌, List, get_or, drop, sym, refl, ap, ◌∙◌, arith}
 use Rattle.replay.specs.Text.{digits_from}
 use Rattle.replay.proofs.Texts.{ten, digit, no-digit}
 use Rattle.replay.proofs.parse.decimal.Goals as goal
@@ -13,7 +13,7 @@ loop-i-preserved c =
     let n : ℕ = c.loop-i.n in
     let i : ℕ = c.loop-i.i in
     let d : ℕ = get_or s i 0 % 16 in
-    let e = c.wrapping_add_u64-n.ensures ∙ ap (λ (t : ℕ). (t + d) % 2 ^ 64) c.wrapping_add_u64-tenfold.ensures ∙ ten n d in
+    let e = c.wrapping_add_u64-n.ensures.value ∙ ap (λ (t : ℕ). (t + d) % 2 ^ 64) c.wrapping_add_u64-tenfold.ensures.value ∙ ten n d in
     (omega arith, c.loop-i.invariant.1 ∙ digit n s i (omega arith) ∙ ap (λ (m : ℕ). digits_from m (drop (i + 1) s)) (sym e))
 
 pub returns : goal.returns

@@ -1,6 +1,6 @@
 -- The invariant: the parts left in the text from the place on.
 use Rattle.std.proofs.Common.{◌≡◌, ℕ, suc, ◌+◌, ◌-◌, ◌≤◌, List, length, drop, ap, ◌∙◌, arith, rules}
-use Rattle.replay.specs.Text.{before, part_of}
+use Rattle.replay.specs.Text.{part_of}
 use Rattle.replay.proofs.Texts.{next-part, past}
 use Rattle.replay.proofs.parse.start.Statement.{statement}
 use Rattle.replay.proofs.parse.start.Tie as tie

@@ -1,5 +1,5 @@
 -- The invariant: the place is the same from the index on.
-use Rattle.std.proofs.Common.{◌-◌, sym, refl, ◌∙◌, arith}
+use Rattle.std.proofs.Common.{sym, refl, ◌∙◌, arith}
 use Rattle.replay.proofs.Texts.{found, other, at-end}
 use Rattle.replay.proofs.parse.until.Goals as goal
 

@@ -1,6 +1,5 @@
 -- By the field that tells it, and the first comparison.
 use Rattle.std.proofs.Common.{sym, ◌∙◌}
-use borrow.Author.Tests.{not-true, not-false}
 use Rattle.words.specs.Planes.{lent}
 use Rattle.replay.proofs.Readings.{compared}
 use Rattle.replay.proofs.unchecked.are_left.Goals as goal
@@ -9,10 +8,10 @@ pub returns-then-not-same_words : goal.returns-then-not-same_words
 returns-then-not-same_words c =
     let a = c.args in
     let q = compared a.out a.line.now (lent a.value.now a.unknown.now) _ _ _ _ c.left_at-k.ensures c.field.ensures.unknown_value in
-    sym (q ∙ rw (sym c.same_words.ensures ∙ not-true _ c.if-not-same_words.true-raw))
+    sym (q ∙ rw (sym c.same_words.ensures ∙ c.if-not-same_words.true))
 
 pub returns : goal.returns
 returns c =
     let a = c.args in
     let q = compared a.out a.line.now (lent a.value.now a.unknown.now) _ _ _ _ c.left_at-k.ensures c.field.ensures.unknown_value in
-    sym (q ∙ rw (sym c.same_words.ensures ∙ not-false _ c.if-not-same_words.false-raw) (sym c.same_words-2.ensures))
+    sym (q ∙ rw (sym c.same_words.ensures ∙ c.if-not-same_words.false) (sym c.same_words-2.ensures))

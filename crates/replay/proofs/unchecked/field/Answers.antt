@@ -10,5 +10,8 @@ unfolding field_of
 returns c =
     let a = c.args in
     let m : c.meant.result.value ≡ c.least-m.result = ap (λ (f : Field). f.value) c.meant.ensures in
-    let n : c.meant.result.unknown ≡ c.least-n.result = ap (λ (f : Field). f.unknown) c.meant.ensures in record { unknown_value = together a.k a.line.now _ _ _ _ _ _ _ _ _ c.part-s.ensures c.sizes_of-e.ensures c.least-m.ensures c.least-n.ensures
-          c.bits_of-bits.ensures c.load.ensures c.load-2.ensures c.meant.ensures; value_in_bounds = (omega (arith, c.least-m.ensures, c.load), omega (arith, c.least-n.ensures, c.load-2)) }
+    let n : c.meant.result.unknown ≡ c.least-n.result = ap (λ (f : Field). f.unknown) c.meant.ensures in record {
+      unknown_value = together a.k a.line.now _ _ _ _ _ _ _ _ _ c.part-s.ensures c.sizes_of-e.ensures c.least-m.ensures c.least-n.ensures
+          c.bits_of-bits.ensures c.load.ensures c.load-2.ensures c.meant.ensures;
+      value_in_bounds = (omega (arith, c.least-m.ensures, c.load), omega (arith, c.least-n.ensures, c.load-2));
+    }
