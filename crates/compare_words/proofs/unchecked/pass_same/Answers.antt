@@ -1,7 +1,7 @@
 -- `compare_words::unchecked::pass_same`: no word before word k differs or has an unknown bit; nor does one of the j from there on while `marks` is 0.
 use mathlib.Core.Path.{◌≡◌, ap, ◌∙◌}
 use mathlib.Core.Logic.{⊎_elim}
-use Prim.Native.Nat.{ℕ, ◌+◌, ◌-◌}
+use Prim.Native.Nat.{ℕ, ◌+◌}
 use native.Mathlib.Omega.{arith}
 use Rattle.words.proofs.Digits.{lt-or-ge}
 use Rattle.compare_words.specs.Compared.{unlike}
