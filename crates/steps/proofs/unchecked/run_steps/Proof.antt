@@ -26,7 +26,6 @@ use borrow.Author.Rules.{rules}
 use Rattle.steps.proofs.unchecked.run_steps.Statement.{statement}
 use Rattle.steps.proofs.unchecked.run_steps.Tie as tie
 use Rattle.steps.proofs.unchecked.run_steps.Proof.Turn.{held, step, Inv-loop, μ-loop, list, count, entered, first, turn, start, filled, fields, found, arenas, scratch, left, place, value-kept, unknown-kept, scratch-value-kept, scratch-unknown-kept, told, inside, at-refused, few, taken, cell, added, below, shown, laid_more, added-at, taken_at, bytes, written, short}
-
 -- `steps::unchecked::run_steps`: what is left to do is the steps from the k-th on; the cells before agree with the arenas.
 pub mod Turn
 
@@ -267,4 +266,3 @@ run_steps_spec =
     same-length-10
     same-length-11
     returns-3)
-
