@@ -80,10 +80,9 @@ run-steps-requires c κs =
 
 returns : tie.Need-returns-in-Refused
 returns c =
-    let r = c.known_told-1.given in
-    ap₂ (λ (z : Store) (o : Buffer). final (memory (state z (arenas c.before.before.before.before.before.before.before.before.before.before.before.before.before.before.before)) (scratch c.before.before.before.before.before.before.before.before.before.before.before.before.before.before.before)) o (RefusedAt (refusal_number r.0.0) 0)) c.store_of.ensures
+    ap₂ (λ (z : Store) (o : Buffer). final (memory (state z (arenas c.before.before.before.before.before.before.before.before.before.before.before.before.before.before.before)) (scratch c.before.before.before.before.before.before.before.before.before.before.before.before.before.before.before)) o (RefusedAt (refusal_number c.in-Refused.r) 0)) c.store_of.ensures
     (c.put_refused.ensures ∙ ap (λ (i : ℕ). put (out c.before.before.before.before.before.before.before.before.before.before.before.before.before.before.before) (refused_text i 0)) c.number-n.ensures)
-    ∙ ap (λ (x : Ran). final_of x (out c.before.before.before.before.before.before.before.before.before.before.before.before.before.before.before)) (refused-load (empty c.before.before.before.before.before.before.before.before.before.before.before.before.before.before.before) (left c.before.before.before.before.before.before.before.before.before.before.before.before.before.before.before) (scratch c.before.before.before.before.before.before.before.before.before.before.before.before.before.before.before) (whole (text c.before.before.before.before.before.before.before.before.before.before.before.before.before.before.before)) (refusal_number r.0.0) (told c.before.before.before.before.before.before.before.before.before.before.before.before.before.before.before (Refused r.0.0) r.1))
+    ∙ ap (λ (x : Ran). final_of x (out c.before.before.before.before.before.before.before.before.before.before.before.before.before.before.before)) (refused-load (empty c.before.before.before.before.before.before.before.before.before.before.before.before.before.before.before) (left c.before.before.before.before.before.before.before.before.before.before.before.before.before.before.before) (scratch c.before.before.before.before.before.before.before.before.before.before.before.before.before.before.before) (whole (text c.before.before.before.before.before.before.before.before.before.before.before.before.before.before.before)) (refusal_number c.in-Refused.r) (told c.before.before.before.before.before.before.before.before.before.before.before.before.before.before.before (Refused c.in-Refused.r) c.in-Refused.is))
 
 -- the steps are run
 abbrev ran : tie.After-store_of-in-Accepted → tie.After-run_steps-p
@@ -92,12 +91,12 @@ ran c = c.before.before.before.before.before.before.before.before.before.before.
 same-length-3 : tie.Need-shape_of-av-in-Accepted
 same-length-3 c =
     let r = ran c in
-    r.run_steps-p.auto.av ∙ (l r.before.before.before.before.before.before.before).load_list-l.kept.1.0
+    r.run_steps-p.auto.av ∙ (l r.before.before.before.before.before.before.before).load_list-l.auto.av
 
 same-length-4 : tie.Need-shape_of-au-in-Accepted
 same-length-4 c =
     let r = ran c in
-    r.run_steps-p.auto.au ∙ (l r.before.before.before.before.before.before.before).load_list-l.kept.1.1.0
+    r.run_steps-p.auto.au ∙ (l r.before.before.before.before.before.before.before).load_list-l.auto.au
 
 returns-2 : tie.Need-returns-in-Accepted
 returns-2 c =
