@@ -48,7 +48,7 @@ pub struct ArmResult {
     pub length: usize,
 }
 
-// ffi/src/bits.rt
+// ffi/src/bit_calls.rt
 extern "C" {
     pub fn vowherunga_get(width: u32, value: *const u64, value_len: usize, unknown: *const u64, unknown_len: usize, i: usize) -> BitResult;
 

@@ -1,5 +1,5 @@
-// The entries of documents 01 and 02 and their types in one list, which `fourstate` sorts by module. A crate that uses the crate `bit`
-// cannot have a module `bit`, so the list and the modules are two crates.
+// The entries of documents 01 and 02 and their types in one list, by the crates that have them, which `fourstate` sorts by module. The page
+// could name these crates itself: it does not, so that it is cut by what a caller looks for alone, and a shell case holds the two together.
 #![tactic(auto)]
 
 pub use arm::chosen_arm;

@@ -2,5 +2,5 @@
 // Each export asks nothing of its caller and does nothing but call its entry.
 #![tactic(auto)]
 
-pub mod bits;
+pub mod bit_calls;
 pub mod vectors;

@@ -1,11 +1,12 @@
-// Four-state values: the public interface on one page, by the modules of document 01, and `arm` and `literal` for document 02. An entry
-// takes whatever it is handed, and gives its result or one refusal, which leaves what it found. Contracts and the fields of types stand in
-// the crates that `entries` names. A crate that calls an entry also lists in crates.txt the crates that declare the types of its arguments
-// and its answer.
+// Four-state values: the public interface on one page, by the modules of document 01, and `arms` and `literal` for document 02. A module
+// cannot have the name of a crate below it, so those of document 01 have other names, and its own are told beside them. An entry takes
+// whatever it is handed, and gives its result or one refusal, which leaves what it found. Contracts and the fields of types stand in the
+// crates that `entries` names. A crate that calls an entry also lists in crates.txt the crates that declare the types of its arguments and
+// its answer.
 #![tactic(auto)]
 
-// A four-state bit and the single-bit rules.
-pub mod bit {
+// `bit` of document 01: a four-state bit and the single-bit rules.
+pub mod bitcode {
     // 0, 1, x or z.
     pub use entries::LogicBit;
     // The code of a bit: 0, 1, 2 for x, 3 for z.
@@ -24,8 +25,8 @@ pub mod bit {
     pub use entries::not;
 }
 
-// A vector's bits in two lent planes of 64-bit words, value and unknown.
-pub mod planes {
+// `planes` of document 01: a vector's bits in two lent planes of 64-bit words, value and unknown.
+pub mod bitplanes {
     // A word of the value plane and the word of the unknown plane beside it.
     pub use entries::Word;
     // How many words a plane of a width has.
@@ -42,8 +43,8 @@ pub mod planes {
     pub use entries::mask_top;
 }
 
-// A vector's header, the operand of equality and truth, refusals, answers, and the constructors.
-pub mod value {
+// `value` of document 01: a vector's header, the operand of equality and truth, refusals, answers, and the constructors.
+pub mod vectors {
     // A width, a sign mark and a fill mark.
     pub use entries::Header;
     // A vector's header, or a real.
@@ -72,8 +73,8 @@ pub mod value {
     pub use entries::from_u64;
 }
 
-// Operators whose result is a vector in lent planes.
-pub mod bitwise {
+// `bitwise` of document 01: operators whose result is a vector in lent planes.
+pub mod operators {
     // And of each place.
     pub use entries::bitwise_and;
     // Or of each place.
@@ -92,8 +93,8 @@ pub mod bitwise {
     pub use entries::from_real_wrapped;
 }
 
-// Reductions of a vector to one bit, truth, and the logical operators.
-pub mod reduce {
+// `reduce` of document 01: reductions of a vector to one bit, truth, and the logical operators.
+pub mod reductions {
     // 0 on any known 0, else x on any unknown bit, else 1.
     pub use entries::reduce_and;
     // 1 on any known 1, else x on any unknown bit, else 0.
@@ -112,8 +113,8 @@ pub mod reduce {
     pub use entries::logic_or;
 }
 
-// Equality of two operands, in one bit, and which rule decided.
-pub mod compare {
+// `compare` of document 01: equality of two operands, in one bit, and which rule decided.
+pub mod comparisons {
     // 0 if two known bits differ, else x on any unknown bit, else 1; where either operand is a real, both count as reals.
     pub use entries::is_equal;
     // 1 if the bit codes are the same at every place, else 0.
@@ -137,7 +138,7 @@ pub mod compare {
 }
 
 // The arm that a condition picks, as a part of the caller's own plane.
-pub mod arm {
+pub mod arms {
     // Of two planes all of the first if the truth is true, all of the second if it is false, else the empty beginning of the first.
     pub use entries::chosen_arm;
 }
@@ -160,8 +161,8 @@ pub mod literal {
     pub use entries::write_literal;
 }
 
-// The cell store: vectors whose words lie one behind the other in two lent arenas.
-pub mod store {
+// `store` of document 01, the cell store: vectors whose words lie one behind the other in two lent arenas.
+pub mod cellstore {
     // At most 320 cells. `new` is an empty store; `add_input` copies a vector behind the last cell; `add_step` works out a step there.
     pub use entries::Store;
     // Where a vector's words begin in both arenas, and its header.
@@ -172,8 +173,8 @@ pub mod store {
     pub use entries::Stored;
 }
 
-// Step lists.
-pub mod steps {
+// `steps` of document 01: step lists.
+pub mod steplists {
     // An op of a step list.
     pub use entries::Op;
     // An op and three numbers: the cells that it names, and the position of insert.

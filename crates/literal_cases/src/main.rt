@@ -2,12 +2,12 @@
 #![tactic(auto)]
 
 use check::same;
+use fourstate::bitplanes::word_count;
 use fourstate::literal::{
     HeaderAnswer, LengthAnswer, TextAnswer, literal_header, literal_length, read_literal,
     write_literal,
 };
-use fourstate::planes::word_count;
-use fourstate::value::{VectorAnswer, number};
+use fourstate::vectors::{VectorAnswer, number};
 use std::io;
 
 // Whether a literal is read into these planes, and written into this text as that one.

@@ -3,9 +3,9 @@
 #![tactic(auto)]
 
 use agreement::same_words;
-use fourstate::steps::{Op, RunEnding, Step, run};
-use fourstate::store::{CellAnswer, Store};
-use fourstate::value::Header;
+use fourstate::cellstore::{CellAnswer, Store};
+use fourstate::steplists::{Op, RunEnding, Step, run};
+use fourstate::vectors::Header;
 use std::io;
 
 // Whether the arenas hold the inputs 1x and 01, their and 0x, and x, the or-reduction of that, a word each.

@@ -1,18 +1,18 @@
 // The calls of operators whose answer is a bit, by their numbers in `replay`.
 use abi::{BitResult, bit_result, operand, truth_result};
 use agreement::{Field, is_bit};
-use fourstate::value::{BitAnswer, Header};
-use fourstate::{compare, reduce};
+use fourstate::vectors::{BitAnswer, Header};
+use fourstate::{comparisons, reductions};
 use replay::unchecked::{field, plain};
 
 // An answer bit of one operand.
 fn of_one(call: usize, a: Field, av: &[u64], au: &[u64]) -> BitResult {
     let h = a.header;
     match call {
-        10 => bit_result(reduce::reduce_and(h, av, au)),
-        11 => bit_result(reduce::reduce_or(h, av, au)),
-        12 => bit_result(reduce::reduce_xor(h, av, au)),
-        _ => truth_result(reduce::is_nonzero(operand(a.is_real, h, a.real), av, au)),
+        10 => bit_result(reductions::reduce_and(h, av, au)),
+        11 => bit_result(reductions::reduce_or(h, av, au)),
+        12 => bit_result(reductions::reduce_xor(h, av, au)),
+        _ => truth_result(reductions::is_nonzero(operand(a.is_real, h, a.real), av, au)),
     }
 }
 
@@ -29,9 +29,9 @@ fn of_two(
     let x = operand(a.is_real, a.header, a.real);
     let y = operand(b.is_real, b.header, b.real);
     match call {
-        14 => reduce::logic_and(x, av, au, y, bv, bu),
-        15 => reduce::logic_or(x, av, au, y, bv, bu),
-        _ => compare::is_equal(x, av, au, y, bv, bu),
+        14 => reductions::logic_and(x, av, au, y, bv, bu),
+        15 => reductions::logic_or(x, av, au, y, bv, bu),
+        _ => comparisons::is_equal(x, av, au, y, bv, bu),
     }
 }
 
@@ -46,10 +46,10 @@ fn of_vectors(
     bu: &[u64],
 ) -> BitAnswer {
     match call {
-        17 => compare::case_eq(a, av, au, b, bv, bu),
-        18 => compare::casez_eq(a, av, au, b, bv, bu),
-        19 => compare::casex_eq(a, av, au, b, bv, bu),
-        _ => compare::wildcard_eq(a, av, au, b, bv, bu),
+        17 => comparisons::case_eq(a, av, au, b, bv, bu),
+        18 => comparisons::casez_eq(a, av, au, b, bv, bu),
+        19 => comparisons::casex_eq(a, av, au, b, bv, bu),
+        _ => comparisons::wildcard_eq(a, av, au, b, bv, bu),
     }
 }
 

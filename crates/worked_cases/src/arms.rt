@@ -1,8 +1,8 @@
 // The call that hands back the arm that a condition picks.
 use abi::operand;
 use agreement::same_words;
-use fourstate::arm::chosen_arm;
-use fourstate::reduce::{Truth, TruthAnswer, is_nonzero};
+use fourstate::arms::chosen_arm;
+use fourstate::reductions::{Truth, TruthAnswer, is_nonzero};
 use replay::unchecked::field;
 
 // The truth of the condition, which is field 5.

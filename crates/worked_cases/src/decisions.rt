@@ -2,8 +2,8 @@
 use crate::lent_bits::number;
 use abi::{decision_result, operand};
 use agreement::{Field, is_decision};
-use fourstate::compare;
-use fourstate::compare::DecisionAnswer;
+use fourstate::comparisons;
+use fourstate::comparisons::DecisionAnswer;
 use replay::unchecked::{field, plain};
 
 // A decision on two operands.
@@ -19,8 +19,8 @@ fn decision(
     let x = operand(a.is_real, a.header, a.real);
     let y = operand(b.is_real, b.header, b.real);
     match call {
-        26 => compare::decide_equal(x, av, au, y, bv, bu),
-        _ => compare::decide_wildcard(a.header, av, au, b.header, bv, bu),
+        26 => comparisons::decide_equal(x, av, au, y, bv, bu),
+        _ => comparisons::decide_wildcard(a.header, av, au, b.header, bv, bu),
     }
 }
 

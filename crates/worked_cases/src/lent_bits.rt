@@ -1,10 +1,10 @@
 // The calls on bits and words of a vector that is lent, by their numbers in `replay`.
 use abi::{BitResult, WordResult, bit_result, change_result, word_result};
 use agreement::{Field, answers, is_bit};
-use fourstate::bit::from_code;
-use fourstate::planes::Word;
-use fourstate::value::{Header, Verdict};
-use fourstate::{bitwise, planes};
+use fourstate::bitcode::from_code;
+use fourstate::bitplanes::Word;
+use fourstate::vectors::{Header, Verdict};
+use fourstate::{bitplanes, operators};
 use replay::unchecked::{are_left, plain};
 
 // A field that is a number.
@@ -26,10 +26,10 @@ pub(crate) fn reads(call: usize, line: &[u8], h: Header, value: &[u64], unknown:
     let i = number(line, 4) as usize;
     let n = number(line, 5) as usize;
     match call {
-        0 => is_bit(want, bit_result(planes::get(width, value, unknown, i))),
+        0 => is_bit(want, bit_result(bitplanes::get(width, value, unknown, i))),
         _ => is_word(
             want,
-            word_result(planes::extract64(width, value, unknown, i, n)),
+            word_result(bitplanes::extract64(width, value, unknown, i, n)),
         ),
     }
 }
@@ -56,11 +56,11 @@ fn write(
     match call {
         2 => {
             let code = (bits.value % 2 + bits.unknown % 2 * 2) as u8;
-            done(planes::set(width, value, unknown, i, from_code(code)))
+            done(bitplanes::set(width, value, unknown, i, from_code(code)))
         }
-        3 => done(planes::splice64(width, value, unknown, i, bits, n)),
-        4 => change_result(bitwise::splice_bits64(h, value, unknown, i, bits, n)),
-        _ => done(planes::mask_top(width, value, unknown)),
+        3 => done(bitplanes::splice64(width, value, unknown, i, bits, n)),
+        4 => change_result(operators::splice_bits64(h, value, unknown, i, bits, n)),
+        _ => done(bitplanes::mask_top(width, value, unknown)),
     }
 }
 

@@ -1,8 +1,8 @@
 // The calls that make a vector, by their numbers in `replay`.
 use abi::header_result;
 use agreement::is_vector;
-use fourstate::bitwise::from_real_wrapped;
-use fourstate::value::{Header, VectorAnswer, from_u64, new, zero};
+use fourstate::operators::from_real_wrapped;
+use fourstate::vectors::{Header, VectorAnswer, from_u64, new, zero};
 use replay::unchecked::{are_left, plain};
 
 fn make(

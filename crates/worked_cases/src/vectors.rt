@@ -1,8 +1,8 @@
 // The calls of operators whose result is a vector, by their numbers in `replay`.
 use abi::header_result;
 use agreement::is_vector;
-use fourstate::bitwise;
-use fourstate::value::{Header, VectorAnswer};
+use fourstate::operators;
+use fourstate::vectors::{Header, VectorAnswer};
 use replay::unchecked::{are_left, field, plain};
 
 // A vector of two operands, or of the first.
@@ -18,11 +18,11 @@ fn result(
     ou: &mut [u64],
 ) -> VectorAnswer {
     match call {
-        21 => bitwise::bitwise_and(a, av, au, b, bv, bu, ov, ou),
-        22 => bitwise::bitwise_or(a, av, au, b, bv, bu, ov, ou),
-        23 => bitwise::bitwise_xor(a, av, au, b, bv, bu, ov, ou),
-        24 => bitwise::merge_unknown(a, av, au, b, bv, bu, ov, ou),
-        _ => bitwise::bitwise_not(a, av, au, ov, ou),
+        21 => operators::bitwise_and(a, av, au, b, bv, bu, ov, ou),
+        22 => operators::bitwise_or(a, av, au, b, bv, bu, ov, ou),
+        23 => operators::bitwise_xor(a, av, au, b, bv, bu, ov, ou),
+        24 => operators::merge_unknown(a, av, au, b, bv, bu, ov, ou),
+        _ => operators::bitwise_not(a, av, au, ov, ou),
     }
 }
 
