@@ -12,7 +12,7 @@ use Rattle.ffi_run.proofs.save_run.Tie as tie
 
 -- the fields by what the test says
 abbrev saved : tie.After-end_number → Bool → Fields
-saved t b = let g = t.args in cond b (fields_by g.starts g.widths g.signs g.fills) (fields_of g.r.store.cells)
+saved t b = let g = t.args in cond b (fields_by g.starts.now g.widths.now g.signs.now g.fills.now) (fields_of g.r.store.cells)
 
 end-number-requires : tie.Need-end_number-requires
 end-number-requires c κs = search rules
