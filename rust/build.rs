@@ -37,7 +37,7 @@ fn link_libraries(has_reference: bool) {
     for library in LIBRARIES.into_iter().chain(has_reference.then_some(FOR_COMPARISONS)) {
         let archive = folder.join(format!("lib{library}.a"));
         println!("cargo:rerun-if-changed={}", archive.display());
-        assert!(archive.exists(), "no {}: `rt staticlib {library}` makes it", archive.display());
+        assert!(archive.exists(), "no {}: `tools/build {library}` makes it", archive.display());
         println!("cargo:rustc-link-lib=static={library}");
     }
 }
