@@ -82,9 +82,9 @@ same header_numbers binding_numbers
 # and those of refusals, ops and rules are the ones of the definitions
 grep -E 'VOWHERUNGA_(REFUSAL|OP|RULE)_' header_numbers >header_codes
 sed -nE '
-    s/^refusalNumber (\w+) = ([0-9]+)$/Refusal\1 = \2/p
-    s/^opCode (\w+) = ([0-9]+)$/Op\1 = \2/p
-    s/^ruleNumber \(?(\w+)( \w+\))? = ([0-9]+)$/Rule\1 = \3/p' \
+    s/^refusal_number (\w+) = ([0-9]+)$/Refusal\1 = \2/p
+    s/^op_code (\w+) = ([0-9]+)$/Op\1 = \2/p
+    s/^rule_number \(?(\w+)( \w+\))? = ([0-9]+)$/Rule\1 = \3/p' \
     "$ROOT/crates/refusal/specs/Refusals.antt" "$ROOT/crates/ops/specs/Names.antt" "$ROOT/crates/abi/specs/Coded.antt" |
     constants >defined_codes
 same header_codes defined_codes
