@@ -26,7 +26,7 @@ CODE = [
 # what stands for what in a definition
 SPEC = [
     (r"\bZero\b", "One"), (r"\bOne\b", "Zero"), (r"\btrue\b", "false"), (r"\bfalse\b", "true"), (r"\bmax\b", "min"), (r"\bmin\b", "max"),
-    (r"\bleb\b", "ltb"), (r"\bltb\b", "leb"), (r"\band_bit\b", "or_bit"), (r"\bor_bit\b", "and_bit"), (r"\.value\b", ".unknown"),
+    (r"\bleb\b", "ltb"), (r"\bltb\b", "leb"), (r"\bnat_le\b", "nat_lt"), (r"\bnat_lt\b", "nat_le"), (r"\band_bit\b", "or_bit"), (r"\bor_bit\b", "and_bit"), (r"\.value\b", ".unknown"),
     (r"\.unknown\b", ".value"), (r" \+ ", " - "), (r" && ", " || "), (r" \|\| ", " && "), (r"(?<![\w.{])(\d+)(?![\w.}])", None),
     (r"\bfirst$", "second"), (r"\bsecond$", "first"),
 ]
