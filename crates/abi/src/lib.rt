@@ -3,24 +3,14 @@
 #![tactic(auto)]
 
 ghost use Rattle.std.specs.Prelude.{◌≡◌};
-ghost use Rattle.refusal.specs.Outcome.{verdict};
+ghost use Rattle.refusal.specs.Outcome.{answer};
 ghost use Rattle.refusal.specs.Outcome.Answer.{given};
-ghost use Rattle.value.specs.Answers.{bit_answer, word_answer, vector_answer};
-ghost use Rattle.insert.specs.Insert.{change_answer};
-ghost use Rattle.truth.specs.Truth.{truth_answer};
-ghost use Rattle.decide.specs.Decide.{decision_answer};
-ghost use Rattle.literal_read.specs.Answers.{header_answer};
-ghost use Rattle.literal_write.specs.Answers.{length_answer, text_answer};
 ghost use Rattle.abi.specs.Coded.{coded_done, coded_bit, coded_word, coded_header, coded_change, coded_truth, coded_length, operand_of};
 ghost use Rattle.abi.specs.Coded.{coded_decision};
 
-use decide::{Decision, DecisionAnswer, Rule};
-use insert::ChangeAnswer;
-use literal_read::HeaderAnswer;
-use literal_write::{LengthAnswer, TextAnswer};
-use refusal::Verdict;
-use truth::TruthAnswer;
-use value::{BitAnswer, Header, Operand, VectorAnswer, WordAnswer};
+use refusal::Refusal;
+use decide::{Decision, Rule};
+use value::{Header, Operand};
 
 #[repr(C)]
 #[derive(Clone, Copy)]
@@ -63,25 +53,25 @@ pub struct DecisionResult {
 }
 
 // 0 where the call was done.
-pub fn done(v: Verdict) -> u8
-    ensures { result ≡ coded_done (verdict v) }
+pub fn done(v: Result<(), Refusal>) -> u8
+    ensures { result ≡ coded_done (answer v) }
 {
     match v {
-        Verdict::Accepted => 0,
-        Verdict::Refused(r) => refusal::number(r),
+        Ok(()) => 0,
+        Err(r) => refusal::number(r),
     }
 }
 
 // A bit by its code.
-pub fn bit_result(a: BitAnswer) -> BitResult
-    ensures { result ≡ coded_bit (bit_answer a) }
+pub fn bit_result(a: Result<LogicBit, Refusal>) -> BitResult
+    ensures { result ≡ coded_bit (answer a) }
 {
     match a {
-        BitAnswer::Bit(b) => BitResult {
+        Ok(b) => BitResult {
             refusal: 0,
             bit: bit::to_code(b),
         },
-        BitAnswer::Refused(r) => BitResult {
+        Err(r) => BitResult {
             refusal: refusal::number(r),
             bit: 0,
         },
@@ -89,16 +79,16 @@ pub fn bit_result(a: BitAnswer) -> BitResult
 }
 
 // A word of both planes.
-pub fn word_result(a: WordAnswer) -> WordResult
-    ensures { result ≡ coded_word (word_answer a) }
+pub fn word_result(a: Result<Word, Refusal>) -> WordResult
+    ensures { result ≡ coded_word (answer a) }
 {
     match a {
-        WordAnswer::Bits(w) => WordResult {
+        Ok(w) => WordResult {
             refusal: 0,
             value: w.value,
             unknown: w.unknown,
         },
-        WordAnswer::Refused(r) => WordResult {
+        Err(r) => WordResult {
             refusal: refusal::number(r),
             value: 0,
             unknown: 0,
@@ -107,17 +97,17 @@ pub fn word_result(a: WordAnswer) -> WordResult
 }
 
 // The header of a vector that was written.
-pub fn header_result(a: VectorAnswer) -> HeaderResult
-    ensures { result ≡ coded_header (vector_answer a) }
+pub fn header_result(a: Result<Header, Refusal>) -> HeaderResult
+    ensures { result ≡ coded_header (answer a) }
 {
     match a {
-        VectorAnswer::Vector(h) => HeaderResult {
+        Ok(h) => HeaderResult {
             refusal: 0,
             width: h.width,
             is_signed: h.is_signed,
             is_fill: h.is_fill,
         },
-        VectorAnswer::Refused(r) => HeaderResult {
+        Err(r) => HeaderResult {
             refusal: refusal::number(r),
             width: 0,
             is_signed: false,
@@ -127,15 +117,15 @@ pub fn header_result(a: VectorAnswer) -> HeaderResult
 }
 
 // Whether an insert changed a bit: 0 is no, 1 is yes.
-pub fn change_result(a: ChangeAnswer) -> BitResult
-    ensures { result ≡ coded_change (change_answer a) }
+pub fn change_result(a: Result<bool, Refusal>) -> BitResult
+    ensures { result ≡ coded_change (answer a) }
 {
     match a {
-        ChangeAnswer::Changed(c) => BitResult {
+        Ok(c) => BitResult {
             refusal: 0,
             bit: c as u8,
         },
-        ChangeAnswer::Refused(r) => BitResult {
+        Err(r) => BitResult {
             refusal: refusal::number(r),
             bit: 0,
         },
@@ -143,15 +133,15 @@ pub fn change_result(a: ChangeAnswer) -> BitResult
 }
 
 // A truth by the code of its bit.
-pub fn truth_result(a: TruthAnswer) -> BitResult
-    ensures { result ≡ coded_truth (truth_answer a) }
+pub fn truth_result(a: Result<Truth, Refusal>) -> BitResult
+    ensures { result ≡ coded_truth (answer a) }
 {
     match a {
-        TruthAnswer::Truth(t) => BitResult {
+        Ok(t) => BitResult {
             refusal: 0,
             bit: bit::to_code(reduce_words::truth_bit(t)),
         },
-        TruthAnswer::Refused(r) => BitResult {
+        Err(r) => BitResult {
             refusal: refusal::number(r),
             bit: 0,
         },
@@ -194,12 +184,12 @@ fn decided(d: Decision) -> DecisionResult
 }
 
 // A decision by its bit and rule.
-pub fn decision_result(a: DecisionAnswer) -> DecisionResult
-    ensures { result ≡ coded_decision (decision_answer a) }
+pub fn decision_result(a: Result<Decision, Refusal>) -> DecisionResult
+    ensures { result ≡ coded_decision (answer a) }
 {
     match a {
-        DecisionAnswer::Decided(d) => decided(d),
-        DecisionAnswer::Refused(r) => DecisionResult {
+        Ok(d) => decided(d),
+        Err(r) => DecisionResult {
             refusal: refusal::number(r),
             bit: 0,
             rule: 0,
@@ -209,25 +199,25 @@ pub fn decision_result(a: DecisionAnswer) -> DecisionResult
 }
 
 // The header of a literal's vector.
-pub fn literal_header_result(a: HeaderAnswer) -> HeaderResult
-    ensures { result ≡ coded_header (header_answer a) }
+pub fn literal_header_result(a: Result<Header, Refusal>) -> HeaderResult
+    ensures { result ≡ coded_header (answer a) }
 {
     match a {
-        HeaderAnswer::Header(h) => header_result(VectorAnswer::Vector(h)),
-        HeaderAnswer::Refused(r) => header_result(VectorAnswer::Refused(r)),
+        Ok(h) => header_result(Ok(h)),
+        Err(r) => header_result(Err(r)),
     }
 }
 
 // The length of a literal.
-pub fn length_result(a: LengthAnswer) -> LengthResult
-    ensures { result ≡ coded_length (length_answer a) }
+pub fn length_result(a: Result<usize, Refusal>) -> LengthResult
+    ensures { result ≡ coded_length (answer a) }
 {
     match a {
-        LengthAnswer::Length(n) => LengthResult {
+        Ok(n) => LengthResult {
             refusal: 0,
             length: n,
         },
-        LengthAnswer::Refused(r) => LengthResult {
+        Err(r) => LengthResult {
             refusal: refusal::number(r),
             length: 0,
         },
@@ -235,12 +225,12 @@ pub fn length_result(a: LengthAnswer) -> LengthResult
 }
 
 // 0 where a text was written.
-pub fn text_done(a: TextAnswer) -> u8
-    ensures { result ≡ coded_done (text_answer a) }
+pub fn text_done(a: Result<(), Refusal>) -> u8
+    ensures { result ≡ coded_done (answer a) }
 {
     match a {
-        TextAnswer::Written => 0,
-        TextAnswer::Refused(r) => refusal::number(r),
+        Ok(()) => 0,
+        Err(r) => refusal::number(r),
     }
 }
 

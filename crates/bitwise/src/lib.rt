@@ -2,17 +2,16 @@
 #![tactic(auto)]
 
 ghost use Rattle.std.specs.Prelude.{◌≡◌};
-ghost use Rattle.refusal.specs.Outcome.{outcome};
+ghost use Rattle.refusal.specs.Outcome.{outcome, answer};
 ghost use Rattle.words.specs.Planes.{lent_by};
-ghost use Rattle.value.specs.Answers.{vector_answer};
 ghost use Rattle.lanes.specs.declared.Bitwise.TheVariants.{And, Or, Xor, Merge};
 ghost use Rattle.bitwise.specs.Bitwise.{join_vectors, bitwise_not};
 
+use refusal::Refusal;
 use bitwise_words::result_header;
 use bitwise_words::unchecked::{join_planes, not_planes};
 use lanes::Bitwise;
-use refusal::Verdict;
-use value::{Header, VectorAnswer, check_output, check_vector};
+use value::{Header, check_output, check_vector};
 
 // The operator on two vectors of any widths, into planes of the larger width.
 fn join_vectors(
@@ -25,22 +24,22 @@ fn join_vectors(
     bu: &[u64],
     ov: &mut [u64],
     ou: &mut [u64],
-) -> VectorAnswer
-    ensures { outcome (vector_answer result) (lent_by ov.new ou.new)
+) -> Result<Header, Refusal>
+    ensures { outcome (answer result) (lent_by ov.new ou.new)
         ≡ join_vectors op a (lent_by av.now au.now) b (lent_by bv.now bu.now) (lent_by ov.old ou.old) }
 {
     match check_vector(a, av, au) {
-        Verdict::Refused(r) => VectorAnswer::Refused(r),
-        Verdict::Accepted => match check_vector(b, bv, bu) {
-            Verdict::Refused(r) => VectorAnswer::Refused(r),
-            Verdict::Accepted => {
+        Err(r) => Err(r),
+        Ok(()) => match check_vector(b, bv, bu) {
+            Err(r) => Err(r),
+            Ok(()) => {
                 let h = result_header(op, a, b);
                 let width = h.width;
                 match check_output(width, ov, ou) {
-                    Verdict::Refused(r) => VectorAnswer::Refused(r),
-                    Verdict::Accepted => {
+                    Err(r) => Err(r),
+                    Ok(()) => {
                         join_planes(op, a, av, au, b, bv, bu, width, ov, ou);
-                        VectorAnswer::Vector(h)
+                        Ok(h)
                     }
                 }
             }
@@ -58,8 +57,8 @@ pub fn bitwise_and(
     bu: &[u64],
     ov: &mut [u64],
     ou: &mut [u64],
-) -> VectorAnswer
-    ensures { outcome (vector_answer result) (lent_by ov.new ou.new)
+) -> Result<Header, Refusal>
+    ensures { outcome (answer result) (lent_by ov.new ou.new)
         ≡ join_vectors And a (lent_by av.now au.now) b (lent_by bv.now bu.now) (lent_by ov.old ou.old) }
 {
     join_vectors(Bitwise::And, a, av, au, b, bv, bu, ov, ou)
@@ -75,8 +74,8 @@ pub fn bitwise_or(
     bu: &[u64],
     ov: &mut [u64],
     ou: &mut [u64],
-) -> VectorAnswer
-    ensures { outcome (vector_answer result) (lent_by ov.new ou.new)
+) -> Result<Header, Refusal>
+    ensures { outcome (answer result) (lent_by ov.new ou.new)
         ≡ join_vectors Or a (lent_by av.now au.now) b (lent_by bv.now bu.now) (lent_by ov.old ou.old) }
 {
     join_vectors(Bitwise::Or, a, av, au, b, bv, bu, ov, ou)
@@ -92,8 +91,8 @@ pub fn bitwise_xor(
     bu: &[u64],
     ov: &mut [u64],
     ou: &mut [u64],
-) -> VectorAnswer
-    ensures { outcome (vector_answer result) (lent_by ov.new ou.new)
+) -> Result<Header, Refusal>
+    ensures { outcome (answer result) (lent_by ov.new ou.new)
         ≡ join_vectors Xor a (lent_by av.now au.now) b (lent_by bv.now bu.now) (lent_by ov.old ou.old) }
 {
     join_vectors(Bitwise::Xor, a, av, au, b, bv, bu, ov, ou)
@@ -109,8 +108,8 @@ pub fn merge_unknown(
     bu: &[u64],
     ov: &mut [u64],
     ou: &mut [u64],
-) -> VectorAnswer
-    ensures { outcome (vector_answer result) (lent_by ov.new ou.new)
+) -> Result<Header, Refusal>
+    ensures { outcome (answer result) (lent_by ov.new ou.new)
         ≡ join_vectors Merge a (lent_by av.now au.now) b (lent_by bv.now bu.now) (lent_by ov.old ou.old) }
 {
     join_vectors(Bitwise::Merge, a, av, au, b, bv, bu, ov, ou)
@@ -123,18 +122,18 @@ pub fn bitwise_not(
     au: &[u64],
     ov: &mut [u64],
     ou: &mut [u64],
-) -> VectorAnswer
-    ensures { outcome (vector_answer result) (lent_by ov.new ou.new)
+) -> Result<Header, Refusal>
+    ensures { outcome (answer result) (lent_by ov.new ou.new)
         ≡ bitwise_not a (lent_by av.now au.now) (lent_by ov.old ou.old) }
 {
     let width = a.width;
     match check_vector(a, av, au) {
-        Verdict::Refused(r) => VectorAnswer::Refused(r),
-        Verdict::Accepted => match check_output(width, ov, ou) {
-            Verdict::Refused(r) => VectorAnswer::Refused(r),
-            Verdict::Accepted => {
+        Err(r) => Err(r),
+        Ok(()) => match check_output(width, ov, ou) {
+            Err(r) => Err(r),
+            Ok(()) => {
                 not_planes(width, av, au, ov, ou);
-                VectorAnswer::Vector(Header {
+                Ok(Header {
                     width: width,
                     is_signed: a.is_signed,
                     is_fill: false,

@@ -1,7 +1,6 @@
 -- Document 01, "Cell store" and "Numbers for what is not done": cells whose spans lie one behind the other in two lent arenas, what cells and arenas
 -- must agree on, and words put into an arena.
 use Rattle.std.specs.Prelude.{Bool, true, false, ◌&&◌, cond, List, [], ◌∷◌, ◌++◌, map, ℕ, ◌+◌, eqb, leb, length, take, drop}
-use Rattle.refusal.specs.Refusals.{refusal_number}
 use Rattle.refusal.specs.Outcome.{Answer}
 use Rattle.refusal.specs.Outcome.Answer.{given, refused}
 use Rattle.words.specs.Planes.{word_count, Planes, lent}
@@ -9,8 +8,6 @@ use Rattle.value.specs.declared.Header.{Header}
 use Rattle.value.specs.Checks.{Vector, vector, check_vector}
 use Rattle.machine.specs.Machine.{words_taken}
 use Rattle.cells.specs.declared.Cell.{Cell}
-use Rattle.cells.specs.declared.PlaceAnswer.{PlaceAnswer}
-use Rattle.cells.specs.declared.PlaceAnswer.TheVariants as place-answer
 
 -- ---- what a cell holds
 
@@ -34,11 +31,6 @@ cell_headers cs = map (λ (c : Cell). c.header) cs
 -- the first word behind these cells
 abbrev pub word_behind : List Cell → ℕ
 word_behind cs = words_taken (cell_headers cs)
-
--- the answer in the paper's numbers
-abbrev pub place_answer : PlaceAnswer → Answer ℕ
-place_answer (place-answer.At n) = given n
-place_answer (place-answer.Refused r) = refused (refusal_number r)
 
 -- ---- 14, cells and arenas disagree
 

@@ -3,10 +3,10 @@
 #![tactic(auto)]
 
 ghost use Rattle.std.specs.Prelude.{◌≡◌, take};
-ghost use Rattle.refusal.specs.Outcome.{after};
+ghost use Rattle.refusal.specs.Outcome.{after, answer};
 ghost use Rattle.refusal.specs.Outcome.Answer.{given};
 ghost use Rattle.words.specs.Planes.{lent_by};
-ghost use Rattle.cells.specs.Cells.{word_behind, check_cells, place_answer};
+ghost use Rattle.cells.specs.Cells.{word_behind, check_cells};
 ghost use Rattle.cells.specs.Places.{no_fields};
 
 use refusal::Refusal;
@@ -32,13 +32,6 @@ pub struct Fields {
     pub fills: [bool; 320],
 }
 
-// The word at which the next cell begins, or the refusal.
-#[derive(Clone, Copy)]
-pub enum PlaceAnswer {
-    At(usize),
-    Refused(Refusal),
-}
-
 // The four arrays of 320 places without a cell.
 pub fn no_fields() -> Fields
     ensures { result ≡ no_fields }
@@ -52,23 +45,23 @@ pub fn no_fields() -> Fields
 }
 
 // The word behind the first `count` of 320 cells, or 14 if the cells and their arenas disagree.
-pub fn check_cells(cells: [Cell; 320], count: usize, value: &[u64], unknown: &[u64]) -> PlaceAnswer
-    ensures { place_answer result
+pub fn check_cells(cells: [Cell; 320], count: usize, value: &[u64], unknown: &[u64]) -> Result<usize, Refusal>
+    ensures { answer result
         ≡ after (check_cells (lent_by value.now unknown.now) cells count) (given (word_behind (take count cells))) }
 {
     if (320 < count) | (value.len() != unknown.len()) {
-        return PlaceAnswer::Refused(Refusal::BadStore);
+        return Err(Refusal::BadStore);
     }
     let mut at = 0;
     let mut i = 0;
     while i < count {
         let c = cells[i];
         if !cell_agrees(c, at, value, unknown) {
-            return PlaceAnswer::Refused(Refusal::BadStore);
+            return Err(Refusal::BadStore);
         }
         let h = c.header;
         at += word_count(h.width);
         i += 1;
     }
-    PlaceAnswer::At(at)
+    Ok(at)
 }

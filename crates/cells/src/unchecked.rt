@@ -5,7 +5,6 @@ ghost use Rattle.cells.specs.Places.{fields_by, header_of, cell_of};
 ghost use Rattle.cells.specs.Cells.{cell_words, span, cell_agrees, put_planes};
 
 use crate::Cell;
-use refusal::Verdict;
 use value::{Header, check_vector};
 use words::unchecked::copy_front;
 use words::word_count;
@@ -67,8 +66,8 @@ pub fn cell_agrees(c: Cell, at: usize, value: &[u64], unknown: &[u64]) -> bool
         let v = cell_words(c, value);
         let u = cell_words(c, unknown);
         match check_vector(h, v, u) {
-            Verdict::Refused(_) => false,
-            Verdict::Accepted => true,
+            Err(_) => false,
+            Ok(()) => true,
         }
     }
 }

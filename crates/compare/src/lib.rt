@@ -3,15 +3,15 @@
 
 ghost use Rattle.std.specs.Prelude.{◌≡◌};
 ghost use Rattle.words.specs.Planes.{lent_by};
-ghost use Rattle.value.specs.Answers.{bit_answer};
+ghost use Rattle.refusal.specs.Outcome.{answer};
 ghost use Rattle.compare_words.specs.declared.Comparison.TheVariants.{CaseEqual, CasezEqual, CasexEqual, WildcardEqual};
 ghost use Rattle.compare.specs.Compare.{comparison, is_equal};
 
+use refusal::Refusal;
 use compare_words::Comparison;
 use compare_words::unchecked::compare;
 use real_equal::unchecked::equal_reals;
-use refusal::Verdict;
-use value::{BitAnswer, Header, Operand, check_pair};
+use value::{Header, Operand, check_pair};
 
 // The comparison of two vectors of any widths.
 pub fn compare_vectors(
@@ -22,19 +22,19 @@ pub fn compare_vectors(
     b: Header,
     bv: &[u64],
     bu: &[u64],
-) -> BitAnswer
-    ensures { bit_answer result
+) -> Result<LogicBit, Refusal>
+    ensures { answer result
         ≡ comparison op a (lent_by av.now au.now) b (lent_by bv.now bu.now) }
 {
     match check_pair(a, av, au, b, bv, bu) {
-        Verdict::Refused(r) => BitAnswer::Refused(r),
-        Verdict::Accepted => BitAnswer::Bit(compare(op, a, av, au, b, bv, bu)),
+        Err(r) => Err(r),
+        Ok(()) => Ok(compare(op, a, av, au, b, bv, bu)),
     }
 }
 
 // 0 if two known bits differ, else x on any unknown bit, else 1. Where either operand is a real, both count as reals.
-pub fn is_equal(a: Operand, av: &[u64], au: &[u64], b: Operand, bv: &[u64], bu: &[u64]) -> BitAnswer
-    ensures { bit_answer result
+pub fn is_equal(a: Operand, av: &[u64], au: &[u64], b: Operand, bv: &[u64], bu: &[u64]) -> Result<LogicBit, Refusal>
+    ensures { answer result
         ≡ is_equal a (lent_by av.now au.now) b (lent_by bv.now bu.now) }
 {
     match a {
@@ -47,24 +47,24 @@ pub fn is_equal(a: Operand, av: &[u64], au: &[u64], b: Operand, bv: &[u64], bu: 
 }
 
 // 1 if the bit codes are the same at every place, else 0.
-pub fn case_eq(a: Header, av: &[u64], au: &[u64], b: Header, bv: &[u64], bu: &[u64]) -> BitAnswer
-    ensures { bit_answer result
+pub fn case_eq(a: Header, av: &[u64], au: &[u64], b: Header, bv: &[u64], bu: &[u64]) -> Result<LogicBit, Refusal>
+    ensures { answer result
         ≡ comparison CaseEqual a (lent_by av.now au.now) b (lent_by bv.now bu.now) }
 {
     compare_vectors(Comparison::CaseEqual, a, av, au, b, bv, bu)
 }
 
 // As case equality, but places with z on either side are skipped.
-pub fn casez_eq(a: Header, av: &[u64], au: &[u64], b: Header, bv: &[u64], bu: &[u64]) -> BitAnswer
-    ensures { bit_answer result
+pub fn casez_eq(a: Header, av: &[u64], au: &[u64], b: Header, bv: &[u64], bu: &[u64]) -> Result<LogicBit, Refusal>
+    ensures { answer result
         ≡ comparison CasezEqual a (lent_by av.now au.now) b (lent_by bv.now bu.now) }
 {
     compare_vectors(Comparison::CasezEqual, a, av, au, b, bv, bu)
 }
 
 // As case equality, but places with x or z on either side are skipped.
-pub fn casex_eq(a: Header, av: &[u64], au: &[u64], b: Header, bv: &[u64], bu: &[u64]) -> BitAnswer
-    ensures { bit_answer result
+pub fn casex_eq(a: Header, av: &[u64], au: &[u64], b: Header, bv: &[u64], bu: &[u64]) -> Result<LogicBit, Refusal>
+    ensures { answer result
         ≡ comparison CasexEqual a (lent_by av.now au.now) b (lent_by bv.now bu.now) }
 {
     compare_vectors(Comparison::CasexEqual, a, av, au, b, bv, bu)
@@ -78,8 +78,8 @@ pub fn wildcard_eq(
     b: Header,
     bv: &[u64],
     bu: &[u64],
-) -> BitAnswer
-    ensures { bit_answer result
+) -> Result<LogicBit, Refusal>
+    ensures { answer result
         ≡ comparison WildcardEqual a (lent_by av.now au.now) b (lent_by bv.now bu.now) }
 {
     compare_vectors(Comparison::WildcardEqual, a, av, au, b, bv, bu)

@@ -2,14 +2,13 @@
 #![tactic(auto)]
 
 ghost use Rattle.std.specs.Prelude.{◌≡◌, ◌≤◌, [], ◌∷◌, get_or};
-ghost use Rattle.refusal.specs.Outcome.{outcome};
+ghost use Rattle.refusal.specs.Outcome.{outcome, answer};
 ghost use Rattle.words.specs.Planes.{from_planes, lent_by};
-ghost use Rattle.value.specs.Answers.{vector_answer};
 ghost use Rattle.constructors.specs.Constructors.{clamped, constructed, new_vector, zero_vector, from_u64};
 
+use refusal::Refusal;
 use bit::LogicBit;
-use refusal::Verdict;
-use value::{MAX_WIDTH, VectorAnswer, check_output, plain_header};
+use value::{MAX_WIDTH, check_output, plain_header};
 
 // A width above the widest vector's becomes that.
 fn cap_width(width: u32) -> u32
@@ -26,43 +25,43 @@ fn construct(
     val: u64,
     count: u32,
     beyond: LogicBit,
-) -> VectorAnswer
+) -> Result<Header, Refusal>
     requires { count ≤ 64 }
-    ensures { outcome (vector_answer result) (lent_by value.new unknown.new)
+    ensures { outcome (answer result) (lent_by value.new unknown.new)
         ≡ constructed width (λ i. get_or (from_planes count (val ∷ []) (0 ∷ [])) i beyond)
         (lent_by value.old unknown.old) }
 {
     let w = cap_width(width);
     match check_output(w, value, unknown) {
-        Verdict::Refused(r) => VectorAnswer::Refused(r),
-        Verdict::Accepted => {
+        Err(r) => Err(r),
+        Ok(()) => {
             let low = [val];
             let none = [0u64];
             words::unchecked::extend_into(w, value, unknown, &low, &none, count, beyond);
-            VectorAnswer::Vector(plain_header(w))
+            Ok(plain_header(w))
         }
     }
 }
 
 // All x, at a clamped width.
-pub fn new(width: u32, value: &mut [u64], unknown: &mut [u64]) -> VectorAnswer
-    ensures { outcome (vector_answer result) (lent_by value.new unknown.new)
+pub fn new(width: u32, value: &mut [u64], unknown: &mut [u64]) -> Result<Header, Refusal>
+    ensures { outcome (answer result) (lent_by value.new unknown.new)
         ≡ new_vector width (lent_by value.old unknown.old) }
 {
     construct(width, value, unknown, 0, 0, LogicBit::X)
 }
 
 // All 0, at a clamped width.
-pub fn zero(width: u32, value: &mut [u64], unknown: &mut [u64]) -> VectorAnswer
-    ensures { outcome (vector_answer result) (lent_by value.new unknown.new)
+pub fn zero(width: u32, value: &mut [u64], unknown: &mut [u64]) -> Result<Header, Refusal>
+    ensures { outcome (answer result) (lent_by value.new unknown.new)
         ≡ zero_vector width (lent_by value.old unknown.old) }
 {
     construct(width, value, unknown, 0, 0, LogicBit::Zero)
 }
 
 // The bits of a number, at a clamped width.
-pub fn from_u64(val: u64, width: u32, value: &mut [u64], unknown: &mut [u64]) -> VectorAnswer
-    ensures { outcome (vector_answer result) (lent_by value.new unknown.new)
+pub fn from_u64(val: u64, width: u32, value: &mut [u64], unknown: &mut [u64]) -> Result<Header, Refusal>
+    ensures { outcome (answer result) (lent_by value.new unknown.new)
         ≡ from_u64 val width (lent_by value.old unknown.old) }
 {
     construct(width, value, unknown, val, 64, LogicBit::Zero)

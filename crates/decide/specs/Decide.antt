@@ -2,7 +2,6 @@
 -- refusals.
 use Rattle.std.specs.Prelude.{◌≡◌}
 use Rattle.bit.specs.declared.LogicBit.{LogicBit}
-use Rattle.refusal.specs.Refusals.{refusal_number}
 use Rattle.refusal.specs.Outcome.{Answer}
 use Rattle.refusal.specs.Outcome.Answer.{given, refused}
 use Rattle.words.specs.Planes.{Planes}
@@ -19,14 +18,7 @@ use Rattle.compare.specs.Compare.{comparison, is_equal}
 use Rattle.decide.specs.declared.Rule.{Rule}
 use Rattle.decide.specs.declared.Rule.TheVariants.{KnownMismatch, Unknown, AllEqual, Numeric}
 use Rattle.decide.specs.declared.Decision.{Decision}
-use Rattle.decide.specs.declared.DecisionAnswer.{DecisionAnswer}
-use Rattle.decide.specs.declared.DecisionAnswer.TheVariants as decision-answer
 use Rattle.decide.specs.Rule.{every_place, right_known, rule_of, Fits, Only, GoesWith}
-
--- the enum in the paper's values and numbers
-abbrev pub decision_answer : DecisionAnswer → Answer Decision
-decision_answer (decision-answer.Decided d) = given d
-decision_answer (decision-answer.Refused r) = refused (refusal_number r)
 
 abbrev pub decision : LogicBit → Rule → Decision
 decision b r = record { bit = b; rule = r }

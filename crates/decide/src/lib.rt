@@ -4,16 +4,16 @@
 ghost use Rattle.std.specs.Prelude.{◌≡◌};
 ghost use Rattle.words.specs.Planes.{lent_by};
 ghost use Rattle.value.specs.declared.Operand.TheVariants.{Vector};
-ghost use Rattle.value.specs.Answers.{bit_answer};
+ghost use Rattle.refusal.specs.Outcome.{answer};
 ghost use Rattle.decide.specs.declared.Rule.TheVariants.{Numeric};
-ghost use Rattle.decide.specs.Decide.{decision_answer, with_rule, decide_equal, decide_wildcard, found_rule, decide_scanned};
+ghost use Rattle.decide.specs.Decide.{with_rule, decide_equal, decide_wildcard, found_rule, decide_scanned};
 
 use bit::LogicBit;
 use compare_words::unchecked::scan;
 use compare_words::{Comparison, Found, found_bit};
 use real_equal::unchecked::equal_reals;
-use refusal::{Refusal, Verdict};
-use value::{BitAnswer, Header, Operand, check_pair};
+use refusal::Refusal;
+use value::{Header, Operand, check_pair};
 
 // The lowest place that holds two different known bits; if there is none, the lowest compared place that holds an unknown bit; if there is
 // none either, all compared places are equal. Numeric where an operand is a real.
@@ -30,13 +30,6 @@ pub enum Rule {
 pub struct Decision {
     pub bit: LogicBit,
     pub rule: Rule,
-}
-
-// A decision, or the refusal.
-#[derive(Clone, Copy)]
-pub enum DecisionAnswer {
-    Decided(Decision),
-    Refused(Refusal),
 }
 
 // The rule by what the scan found.
@@ -59,15 +52,15 @@ fn decide_scanned(
     b: Header,
     bv: &[u64],
     bu: &[u64],
-) -> DecisionAnswer
-    ensures { decision_answer result
+) -> Result<Decision, Refusal>
+    ensures { answer result
         ≡ decide_scanned op a (lent_by av.now au.now) b (lent_by bv.now bu.now) }
 {
     match check_pair(a, av, au, b, bv, bu) {
-        Verdict::Refused(r) => DecisionAnswer::Refused(r),
-        Verdict::Accepted => {
+        Err(r) => Err(r),
+        Ok(()) => {
             let found = scan(op, a, av, au, b, bv, bu);
-            DecisionAnswer::Decided(Decision {
+            Ok(Decision {
                 bit: found_bit(found),
                 rule: found_rule(found),
             })
@@ -76,15 +69,15 @@ fn decide_scanned(
 }
 
 // A bit by the rule "numeric"; a refusal stays.
-fn numeric(a: BitAnswer) -> DecisionAnswer
-    ensures { decision_answer result ≡ with_rule Numeric (bit_answer a) }
+fn numeric(a: Result<LogicBit, Refusal>) -> Result<Decision, Refusal>
+    ensures { answer result ≡ with_rule Numeric (answer a) }
 {
     match a {
-        BitAnswer::Bit(b) => DecisionAnswer::Decided(Decision {
+        Ok(b) => Ok(Decision {
             bit: b,
             rule: Rule::Numeric,
         }),
-        BitAnswer::Refused(r) => DecisionAnswer::Refused(r),
+        Err(r) => Err(r),
     }
 }
 
@@ -96,8 +89,8 @@ pub fn decide_vectors(
     b: Header,
     bv: &[u64],
     bu: &[u64],
-) -> DecisionAnswer
-    ensures { decision_answer result
+) -> Result<Decision, Refusal>
+    ensures { answer result
         ≡ decide_equal (Vector a) (lent_by av.now au.now) (Vector b) (lent_by bv.now bu.now) }
 {
     decide_scanned(Comparison::Equal, a, av, au, b, bv, bu)
@@ -111,8 +104,8 @@ pub fn decide_equal(
     b: Operand,
     bv: &[u64],
     bu: &[u64],
-) -> DecisionAnswer
-    ensures { decision_answer result
+) -> Result<Decision, Refusal>
+    ensures { answer result
         ≡ decide_equal a (lent_by av.now au.now) b (lent_by bv.now bu.now) }
 {
     match a {
@@ -132,8 +125,8 @@ pub fn decide_wildcard(
     b: Header,
     bv: &[u64],
     bu: &[u64],
-) -> DecisionAnswer
-    ensures { decision_answer result
+) -> Result<Decision, Refusal>
+    ensures { answer result
         ≡ decide_wildcard a (lent_by av.now au.now) b (lent_by bv.now bu.now) }
 {
     decide_scanned(Comparison::WildcardEqual, a, av, au, b, bv, bu)

@@ -3,23 +3,21 @@
 #![tactic(auto)]
 
 ghost use Rattle.std.specs.Prelude.{◌≡◌, ◌<◌, length};
-ghost use Rattle.refusal.specs.Outcome.{outcome};
+ghost use Rattle.refusal.specs.Outcome.{outcome, answer};
 ghost use Rattle.words.specs.Vector.{at};
 ghost use Rattle.words.specs.Planes.{word_count, from_planes, word_at, lent_by, planes_of};
-ghost use Rattle.value.specs.Answers.{vector_answer};
 ghost use Rattle.value.specs.declared.Operand.TheVariants.{Vector};
 ghost use Rattle.reduce_words.specs.Fold.{truth_of};
 ghost use Rattle.bitwise_words.specs.Joined.{inverted};
 ghost use Rattle.bitwise.specs.Bitwise.{bitwise_not};
-ghost use Rattle.truth.specs.Truth.{truth_answer, is_nonzero};
+ghost use Rattle.truth.specs.Truth.{is_nonzero};
 ghost use Rattle.abi.specs.Coded.{coded_header, coded_truth, coded, coded_outcome};
 
+use refusal::Refusal;
 use abi::{BitResult, HeaderResult, header_result, truth_result};
 use bits::unchecked::get;
 use reduce_words::Truth;
-use refusal::Verdict;
-use truth::TruthAnswer;
-use value::{Header, VectorAnswer, check_output, check_vector};
+use value::{Header, check_output, check_vector};
 use words::Word;
 use words::unchecked::least;
 
@@ -61,18 +59,18 @@ fn not_bits(width: u32, av: &[u64], au: &[u64], ov: &mut [u64], ou: &mut [u64])
 }
 
 // Not, refused as `bitwise::bitwise_not` refuses.
-fn not_vector(a: Header, av: &[u64], au: &[u64], ov: &mut [u64], ou: &mut [u64]) -> VectorAnswer
-    ensures { outcome (vector_answer result) (lent_by ov.new ou.new)
+fn not_vector(a: Header, av: &[u64], au: &[u64], ov: &mut [u64], ou: &mut [u64]) -> Result<Header, Refusal>
+    ensures { outcome (answer result) (lent_by ov.new ou.new)
         ≡ bitwise_not a (lent_by av.now au.now) (lent_by ov.old ou.old) }
 {
     let width = a.width;
     match check_vector(a, av, au) {
-        Verdict::Refused(r) => VectorAnswer::Refused(r),
-        Verdict::Accepted => match check_output(width, ov, ou) {
-            Verdict::Refused(r) => VectorAnswer::Refused(r),
-            Verdict::Accepted => {
+        Err(r) => Err(r),
+        Ok(()) => match check_output(width, ov, ou) {
+            Err(r) => Err(r),
+            Ok(()) => {
                 not_bits(width, av, au, ov, ou);
-                VectorAnswer::Vector(Header {
+                Ok(Header {
                     width: width,
                     is_signed: a.is_signed,
                     is_fill: false,
@@ -105,13 +103,13 @@ fn truth_bits(width: u32, value: &[u64], unknown: &[u64]) -> Truth
 }
 
 // The truth of a vector, refused as `truth::is_nonzero` refuses.
-fn truth_vector(a: Header, value: &[u64], unknown: &[u64]) -> TruthAnswer
-    ensures { truth_answer result ≡ is_nonzero (Vector a) (lent_by value.now unknown.now) }
+fn truth_vector(a: Header, value: &[u64], unknown: &[u64]) -> Result<Truth, Refusal>
+    ensures { answer result ≡ is_nonzero (Vector a) (lent_by value.now unknown.now) }
 {
     let width = a.width;
     match check_vector(a, value, unknown) {
-        Verdict::Refused(r) => TruthAnswer::Refused(r),
-        Verdict::Accepted => TruthAnswer::Truth(truth_bits(width, value, unknown)),
+        Err(r) => Err(r),
+        Ok(()) => Ok(truth_bits(width, value, unknown)),
     }
 }
 

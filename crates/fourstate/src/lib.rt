@@ -56,13 +56,9 @@ pub mod vectors {
     // The number of a refusal.
     pub use entries::number;
     // Whether a call that answers nothing else was done.
-    pub use entries::Verdict;
     // A bit, or the refusal.
-    pub use entries::BitAnswer;
     // A word of both planes, or the refusal.
-    pub use entries::WordAnswer;
     // The header of a vector that was written into lent planes, or the refusal.
-    pub use entries::VectorAnswer;
     // Whether a header and its planes may be an operand, or which of 1 to 4 they break.
     pub use entries::check_vector;
     // All x, at a clamped width.
@@ -86,7 +82,6 @@ pub mod operators {
     // Not of each place.
     pub use entries::bitwise_not;
     // Whether an insert changed a bit, or the refusal.
-    pub use entries::ChangeAnswer;
     // Insert: puts the n lowest bits of a word into a vector, in place.
     pub use entries::splice_bits64;
     // A real as an unsigned vector: rounded half away from zero, modulo 2 to the width.
@@ -104,7 +99,6 @@ pub mod reductions {
     // False, true or unknown.
     pub use entries::Truth;
     // A truth, or the refusal.
-    pub use entries::TruthAnswer;
     // True on a known 1, else unknown on an unknown bit, else false; a real is true if not equal to 0.
     pub use entries::is_nonzero;
     // And of two truths.
@@ -130,7 +124,6 @@ pub mod comparisons {
     // A bit, and the rule that decided.
     pub use entries::Decision;
     // A decision, or the refusal.
-    pub use entries::DecisionAnswer;
     // The answer of `is_equal`, and the rule.
     pub use entries::decide_equal;
     // The answer of `wildcard_eq`, and the rule.
@@ -146,17 +139,14 @@ pub mod arms {
 // Sized literals such as 8'hzx, read into lent planes and written into a lent text.
 pub mod literal {
     // The header of a literal's vector, or the refusal.
-    pub use entries::HeaderAnswer;
     // Whether a text is a literal, and the header of its vector.
     pub use entries::literal_header;
     // The vector of a literal, into planes of exactly its words.
     pub use entries::read_literal;
     // The length of a literal, or the refusal.
-    pub use entries::LengthAnswer;
     // How long the literal of a vector is.
     pub use entries::literal_length;
     // Whether a text was written, or the refusal.
-    pub use entries::TextAnswer;
     // A vector as a binary literal, into a text that is exactly as long.
     pub use entries::write_literal;
 }
@@ -168,7 +158,6 @@ pub mod cellstore {
     // Where a vector's words begin in both arenas, and its header.
     pub use entries::Cell;
     // The number of the cell that was added, or the refusal.
-    pub use entries::CellAnswer;
     // An answer, and the store as the call leaves it.
     pub use entries::Stored;
 }

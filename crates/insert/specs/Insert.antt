@@ -2,22 +2,14 @@
 use Rattle.std.specs.Prelude.{Bool, true, not, ◌&&◌, List, ℕ, zero, suc, ◌+◌, length}
 use Rattle.bit.specs.declared.LogicBit.{LogicBit}
 use Rattle.bit.specs.Rules.{same}
-use Rattle.refusal.specs.Refusals.{refusal_number}
-use Rattle.refusal.specs.Outcome.{Answer, Outcome, outcome, or_refuse}
-use Rattle.refusal.specs.Outcome.Answer.{given, refused}
+use Rattle.refusal.specs.Outcome.{Outcome, outcome, or_refuse}
+use Rattle.refusal.specs.Outcome.Answer.{given}
 use Rattle.words.specs.declared.Word.{Word}
 use Rattle.words.specs.Vector.{at}
 use Rattle.words.specs.Planes.{Planes, planes_of, bit_of}
 use Rattle.bits.specs.Bits.{splice_count, spliced}
 use Rattle.value.specs.declared.Header.{Header}
 use Rattle.value.specs.Checks.{vector, check_vector}
-use Rattle.insert.specs.declared.ChangeAnswer.{ChangeAnswer}
-use Rattle.insert.specs.declared.ChangeAnswer.TheVariants as change-answer
-
--- yes or no, in the paper's numbers for a refusal
-abbrev pub change_answer : ChangeAnswer → Answer Bool
-change_answer (change-answer.Changed b) = given b
-change_answer (change-answer.Refused r) = refused (refusal_number r)
 
 -- every one of the n places from 0 on passes the test
 unfoldable pub all_below : ℕ → (ℕ → Bool) → Bool

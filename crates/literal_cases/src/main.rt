@@ -3,11 +3,8 @@
 
 use check::same;
 use fourstate::bitplanes::word_count;
-use fourstate::literal::{
-    HeaderAnswer, LengthAnswer, TextAnswer, literal_header, literal_length, read_literal,
-    write_literal,
-};
-use fourstate::vectors::{VectorAnswer, number};
+use fourstate::literal::{literal_header, literal_length, read_literal, write_literal};
+use fourstate::vectors::number;
 use std::io;
 
 // Whether a literal is read into these planes, and written into this text as that one.
@@ -19,10 +16,10 @@ fn goes_round(
     out: &mut [u8],
 ) -> bool {
     match read_literal(text, value, unknown) {
-        VectorAnswer::Refused(_) => false,
-        VectorAnswer::Vector(h) => match write_literal(h, value, unknown, out) {
-            TextAnswer::Refused(_) => false,
-            TextAnswer::Written => same(out, binary),
+        Err(_) => false,
+        Ok(h) => match write_literal(h, value, unknown, out) {
+            Err(_) => false,
+            Ok(()) => same(out, binary),
         },
     }
 }
@@ -33,10 +30,10 @@ fn agrees(text: &[u8], binary: &[u8]) -> bool {
     let mut unknown = [0u64; 2];
     let mut out = [0u8; 134];
     match literal_header(text) {
-        HeaderAnswer::Refused(_) => false,
-        HeaderAnswer::Header(h) => match literal_length(h) {
-            LengthAnswer::Refused(_) => false,
-            LengthAnswer::Length(n) => {
+        Err(_) => false,
+        Ok(h) => match literal_length(h) {
+            Err(_) => false,
+            Ok(n) => {
                 let words = word_count(h.width);
                 if 2 < words {
                     return false;
@@ -61,8 +58,8 @@ fn is_refused(text: &[u8]) -> bool {
     let mut value = [7u64; 1];
     let mut unknown = [9u64; 1];
     match read_literal(text, &mut value, &mut unknown) {
-        VectorAnswer::Vector(_) => false,
-        VectorAnswer::Refused(r) => number(r) == 15 && value[0] == 7 && unknown[0] == 9,
+        Ok(_) => false,
+        Err(r) => number(r) == 15 && value[0] == 7 && unknown[0] == 9,
     }
 }
 

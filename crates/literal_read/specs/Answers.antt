@@ -1,21 +1,14 @@
 -- What the code answers on the way through a literal's text s: places of s instead of the texts from there on. A width of 0 says that the text is no
 -- literal.
 use Rattle.std.specs.Prelude.{Bool, ◌&&◌, ◌||◌, cond, List, ℕ, eqb, ltb, drop}
-use Rattle.refusal.specs.Refusals.{refusal_number}
 use Rattle.refusal.specs.Outcome.{Answer}
 use Rattle.refusal.specs.Outcome.Answer.{given, refused}
 use Rattle.value.specs.Checks.{Vector}
 use Rattle.value.specs.declared.Header.{Header}
 use Rattle.literal_words.specs.Digits.{digit_number, is_unknown, is_underscore, value_bits}
 use Rattle.literal_read.specs.Literal.{sized, signed_based}
-use Rattle.literal_read.specs.declared.HeaderAnswer.{HeaderAnswer}
-use Rattle.literal_read.specs.declared.HeaderAnswer.TheVariants as header-answer
 use Rattle.literal_read.specs.declared.Size.{Size}
 use Rattle.literal_read.specs.declared.Literal.{Literal}
-
-abbrev pub header_answer : HeaderAnswer → Answer Header
-header_answer (header-answer.Header h) = given h
-header_answer (header-answer.Refused r) = refused (refusal_number r)
 
 -- a size, and behind its apostrophe the rest of the literal
 abbrev pub size_in : List ℕ → Size → Answer Vector

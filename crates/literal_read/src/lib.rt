@@ -2,24 +2,16 @@
 #![tactic(auto)]
 
 ghost use Rattle.std.specs.Prelude.{◌≡◌, true, ◌<◌, drop};
-ghost use Rattle.refusal.specs.Outcome.{outcome};
+ghost use Rattle.refusal.specs.Outcome.{outcome, answer};
 ghost use Rattle.words.specs.Planes.{lent_by};
-ghost use Rattle.value.specs.Answers.{vector_answer};
 ghost use Rattle.literal_words.specs.Digits.{each, is_value};
 ghost use Rattle.literal_read.specs.Literal.{is_s, is_base, literal, literal_header, read_literal};
-ghost use Rattle.literal_read.specs.Answers.{header_answer, size_in, follows, literal_in};
+ghost use Rattle.literal_read.specs.Answers.{size_in, follows, literal_in};
 
 use literal_words::unchecked::fill_planes;
 use literal_words::{MAX_SIZE, digit_number, is_decimal, is_unknown, radix};
-use refusal::{Refusal, Verdict};
-use value::{Header, VectorAnswer, check_output};
-
-// The header of a literal's vector, or the refusal.
-#[derive(Clone, Copy)]
-pub enum HeaderAnswer {
-    Header(Header),
-    Refused(Refusal),
-}
+use refusal::Refusal;
+use value::{Header, check_output};
 
 // The size of a literal, and the place behind its apostrophe; a width of 0 if there is no size.
 #[derive(Clone, Copy)]
@@ -161,14 +153,14 @@ fn parts(s: &[u8]) -> Literal
 }
 
 // The header of a literal's vector, no fill; or 15.
-pub fn literal_header(text: &[u8]) -> HeaderAnswer
-    ensures { header_answer result ≡ literal_header text.now }
+pub fn literal_header(text: &[u8]) -> Result<Header, Refusal>
+    ensures { answer result ≡ literal_header text.now }
 {
     let l = parts(text);
     if l.width == 0 {
-        return HeaderAnswer::Refused(Refusal::BadLiteral);
+        return Err(Refusal::BadLiteral);
     }
-    HeaderAnswer::Header(Header {
+    Ok(Header {
         width: l.width,
         is_signed: l.is_signed,
         is_fill: false,
@@ -176,20 +168,20 @@ pub fn literal_header(text: &[u8]) -> HeaderAnswer
 }
 
 // Writes a literal's vector into planes of exactly its word count: 15, then 5.
-pub fn read_literal(text: &[u8], ov: &mut [u64], ou: &mut [u64]) -> VectorAnswer
-    ensures { outcome (vector_answer result) (lent_by ov.new ou.new)
+pub fn read_literal(text: &[u8], ov: &mut [u64], ou: &mut [u64]) -> Result<Header, Refusal>
+    ensures { outcome (answer result) (lent_by ov.new ou.new)
         ≡ read_literal text.now (lent_by ov.old ou.old) }
 {
     let l = parts(text);
     let width = l.width;
     if width == 0 {
-        return VectorAnswer::Refused(Refusal::BadLiteral);
+        return Err(Refusal::BadLiteral);
     }
     match check_output(width, ov, ou) {
-        Verdict::Refused(r) => VectorAnswer::Refused(r),
-        Verdict::Accepted => {
+        Err(r) => Err(r),
+        Ok(()) => {
             fill_planes(l.base, width, text, l.value, ov, ou);
-            VectorAnswer::Vector(Header {
+            Ok(Header {
                 width,
                 is_signed: l.is_signed,
                 is_fill: false,

@@ -2,31 +2,16 @@
 #![tactic(auto)]
 
 ghost use Rattle.std.specs.Prelude.{◌≡◌, ◌++◌, ◌+◌, ◌≤◌, ◌<◌, length};
-ghost use Rattle.refusal.specs.Outcome.{outcome};
+ghost use Rattle.refusal.specs.Outcome.{outcome, answer};
 ghost use Rattle.words.specs.Planes.{word_count, from_planes, lent_by};
 ghost use Rattle.text.specs.Write.{decimal, bit_digits};
 ghost use Rattle.lines.specs.Buffer.{buffer, put};
 ghost use Rattle.literal_write.specs.Write.{base_text, literal_length, write_literal};
-ghost use Rattle.literal_write.specs.Answers.{length_answer, text_answer};
 
 use lines::unchecked::{put_bits, put_bytes, put_number};
 use literal_words::MAX_SIZE;
-use refusal::{Refusal, Verdict};
+use refusal::Refusal;
 use value::{Header, MAX_WIDTH, check_vector};
-
-// The length of a literal, or the refusal.
-#[derive(Clone, Copy)]
-pub enum LengthAnswer {
-    Length(usize),
-    Refused(Refusal),
-}
-
-// Whether a text was written into lent memory, or the refusal.
-#[derive(Clone, Copy)]
-pub enum TextAnswer {
-    Written,
-    Refused(Refusal),
-}
 
 // How many digits a number below 10,000 has.
 fn digit_count(n: u32) -> usize
@@ -67,44 +52,44 @@ fn put_literal(width: u32, is_signed: bool, value: &[u64], unknown: &[u64], text
 }
 
 // How long the literal of a vector is: 1, 4, then 15 for a fill and for a width that is not 1 to 4,096.
-pub fn literal_length(h: Header) -> LengthAnswer
-    ensures { length_answer result ≡ literal_length h }
+pub fn literal_length(h: Header) -> Result<usize, Refusal>
+    ensures { answer result ≡ literal_length h }
 {
     let width = h.width;
     if MAX_WIDTH < width {
-        return LengthAnswer::Refused(Refusal::TooWide);
+        return Err(Refusal::TooWide);
     }
     if h.is_fill {
         if width == 0 {
-            return LengthAnswer::Refused(Refusal::EmptyFill);
+            return Err(Refusal::EmptyFill);
         }
-        return LengthAnswer::Refused(Refusal::BadLiteral);
+        return Err(Refusal::BadLiteral);
     }
     if width == 0 {
-        return LengthAnswer::Refused(Refusal::BadLiteral);
+        return Err(Refusal::BadLiteral);
     }
     if MAX_SIZE < width {
-        return LengthAnswer::Refused(Refusal::BadLiteral);
+        return Err(Refusal::BadLiteral);
     }
     let base = if h.is_signed { 3 } else { 2 };
-    LengthAnswer::Length(digit_count(width) + base + width as usize)
+    Ok(digit_count(width) + base + width as usize)
 }
 
 // Writes a vector as a literal into a text that is exactly as long: 1 to 4, then 15 as above, then 5.
-pub fn write_literal(h: Header, value: &[u64], unknown: &[u64], text: &mut [u8]) -> TextAnswer
-    ensures { outcome (text_answer result) text.new
+pub fn write_literal(h: Header, value: &[u64], unknown: &[u64], text: &mut [u8]) -> Result<(), Refusal>
+    ensures { outcome (answer result) text.new
         ≡ write_literal h (lent_by value.now unknown.now) text.old }
 {
     match check_vector(h, value, unknown) {
-        Verdict::Refused(r) => TextAnswer::Refused(r),
-        Verdict::Accepted => match literal_length(h) {
-            LengthAnswer::Refused(r) => TextAnswer::Refused(r),
-            LengthAnswer::Length(n) => {
+        Err(r) => Err(r),
+        Ok(()) => match literal_length(h) {
+            Err(r) => Err(r),
+            Ok(n) => {
                 if text.len() != n {
-                    return TextAnswer::Refused(Refusal::OutputLength);
+                    return Err(Refusal::OutputLength);
                 }
                 put_literal(h.width, h.is_signed, value, unknown, text);
-                TextAnswer::Written
+                Ok(())
             }
         },
     }

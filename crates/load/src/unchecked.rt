@@ -1,8 +1,7 @@
 // One input of a list, and all of them, put into the first cells. These ask their caller for a list that was read from the text.
 ghost use Rattle.std.specs.Prelude.{◌≡◌, ◌≤◌, length};
-ghost use Rattle.refusal.specs.Outcome.{outcome, verdict};
+ghost use Rattle.refusal.specs.Outcome.{outcome, answer};
 ghost use Rattle.words.specs.Planes.{lent_by, planes_of};
-ghost use Rattle.cells.specs.Cells.{place_answer};
 ghost use Rattle.store.specs.Store.{state_by, store_of, empty_store};
 ghost use Rattle.store.specs.Taken.{take_input};
 ghost use Rattle.steplist.specs.Answers.{input_in, list_in};
@@ -10,8 +9,8 @@ ghost use Rattle.load.specs.Inputs.{add_inputs};
 ghost use Rattle.load.specs.Limits.{Fitted, InputReadable, InputsReadable};
 
 use crate::Inputs;
-use cells::{PlaceAnswer, no_fields};
-use refusal::{Refusal, Verdict};
+use cells::no_fields;
+use refusal::Refusal;
 use steplist::{Input, StepList};
 use store::unchecked::take_input;
 use text::unchecked::fill_planes;
@@ -25,10 +24,10 @@ fn load_input(
     text: &[u8],
     av: &mut [u64],
     au: &mut [u64],
-) -> PlaceAnswer
+) -> Result<usize, Refusal>
     requires input_readable { InputReadable text.now x }
     requires next_in_bounds { (next ≤ length av.old) × (length av.old ≡ length au.old) }
-    ensures { outcome (place_answer result) (lent_by av.new au.new)
+    ensures { outcome (answer result) (lent_by av.new au.new)
         ≡ take_input count next x.header (planes_of (input_in text.now x).bits) (lent_by av.old au.old) }
 {
     let h = x.header;
@@ -42,7 +41,7 @@ fn load_input(
 // Puts the inputs of the list into the first cells, up to the first that is refused.
 pub fn load_inputs(list: StepList, text: &[u8], av: &mut [u64], au: &mut [u64]) -> Inputs
     requires { InputsReadable text.now list }
-    ensures au_value { outcome (verdict result.verdict) (state_by (store_of result.count result.fields) av.new au.new)
+    ensures au_value { outcome (answer result.verdict) (state_by (store_of result.count result.fields) av.new au.new)
         ≡ add_inputs (state_by empty_store av.old au.old) (list_in text.now list).inputs }
     ensures fitted { Fitted result.fields result.count result.next (lent_by av.new au.new) }
 {
@@ -51,7 +50,7 @@ pub fn load_inputs(list: StepList, text: &[u8], av: &mut [u64], au: &mut [u64]) 
     let mut i = 0;
     if (0 < list.input_count) & (av.len() != au.len()) {
         return Inputs {
-            verdict: Verdict::Refused(Refusal::BadStore),
+            verdict: Err(Refusal::BadStore),
             fields: f,
             count: 0,
             next: 0,
@@ -60,15 +59,15 @@ pub fn load_inputs(list: StepList, text: &[u8], av: &mut [u64], au: &mut [u64]) 
     while i < list.input_count {
         let x = list.inputs[i];
         match load_input(x, i, next, text, av, au) {
-            PlaceAnswer::Refused(r) => {
+            Err(r) => {
                 return Inputs {
-                    verdict: Verdict::Refused(r),
+                    verdict: Err(r),
                     fields: f,
                     count: i,
                     next: next,
                 };
             }
-            PlaceAnswer::At(at) => {
+            Ok(at) => {
                 let h = x.header;
                 f.starts[i] = at;
                 f.widths[i] = h.width;
@@ -80,7 +79,7 @@ pub fn load_inputs(list: StepList, text: &[u8], av: &mut [u64], au: &mut [u64]) 
         i += 1;
     }
     Inputs {
-        verdict: Verdict::Accepted,
+        verdict: Ok(()),
         fields: f,
         count: i,
         next: next,

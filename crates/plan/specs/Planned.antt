@@ -1,15 +1,10 @@
 -- Document 01, "Cell store", "Step list" and "Numbers for what is not done": the numbers of the cells that a step names, and where its own cell goes.
 use Rattle.std.specs.Prelude.{cond, List, ltb}
-use Rattle.refusal.specs.Refusals.{refusal_number}
-use Rattle.refusal.specs.Outcome.{Answer}
-use Rattle.refusal.specs.Outcome.Answer.{given, refused}
 use Rattle.value.specs.declared.Header.{Header}
 use Rattle.ops.specs.declared.Step.{Step}
 use Rattle.ops.specs.Ops.{operands}
 use Rattle.machine.specs.Machine.{words_taken, step_header}
 use Rattle.plan.specs.declared.PlannedStep.{PlannedStep}
-use Rattle.plan.specs.declared.PlanAnswer.{PlanAnswer}
-use Rattle.plan.specs.declared.PlanAnswer.TheVariants as plan-answer
 
 -- an operand that the op does not use is ignored: the number of a stands for it
 abbrev pub named : Step → Step
@@ -32,7 +27,3 @@ planned hs s = record {
   header = step_header hs s;
 }
 
--- the answer in the paper's numbers
-abbrev pub plan_answer : PlanAnswer → Answer PlannedStep
-plan_answer (plan-answer.Planned p) = given p
-plan_answer (plan-answer.Refused r) = refused (refusal_number r)

@@ -21,9 +21,3 @@ pub struct PlannedStep {
     pub header: Header,
 }
 
-// The planned step, or the refusal.
-#[derive(Clone, Copy)]
-pub enum PlanAnswer {
-    Planned(PlannedStep),
-    Refused(Refusal),
-}

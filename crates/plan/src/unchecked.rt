@@ -1,18 +1,16 @@
 // The checks of an input and of a step behind `count` cells that take the first `next` words of the arenas.
 ghost use Rattle.std.specs.Prelude.{◌≡◌, ◌≤◌};
-ghost use Rattle.refusal.specs.Outcome.{after, verdict};
+ghost use Rattle.refusal.specs.Outcome.{after, answer};
 ghost use Rattle.refusal.specs.Outcome.Answer.{given};
 ghost use Rattle.machine.specs.Machine.{words_taken, check_input_behind, check_step};
-ghost use Rattle.cells.specs.Cells.{place_answer};
 ghost use Rattle.cells.specs.Places.{headers_by};
-ghost use Rattle.plan.specs.Planned.{named, planned, plan_answer};
+ghost use Rattle.plan.specs.Planned.{named, planned};
 
-use crate::{PlanAnswer, PlannedStep};
-use cells::PlaceAnswer;
+use crate::PlannedStep;
 use cells::unchecked::header_at;
 use machine::Room;
 use ops::{Step, arms_refused, operand_count, result_header};
-use refusal::{Refusal, Verdict};
+use refusal::Refusal;
 use words::word_count;
 
 // The step, where the number of its first operand stands for each operand that its op does not use.
@@ -45,23 +43,23 @@ pub fn plan_input(
     count: usize,
     next: usize,
     width: u32,
-    checked: Verdict,
+    checked: Result<(), Refusal>,
     room: Room,
-) -> PlaceAnswer
+) -> Result<usize, Refusal>
     requires { next ≤ room.arena }
-    ensures { place_answer result
-        ≡ after (check_input_behind room count next (verdict checked) width) (given next) }
+    ensures { answer result
+        ≡ after (check_input_behind room count next (answer checked) width) (given next) }
 {
     if 320 <= count {
-        return PlaceAnswer::Refused(Refusal::StoreFull);
+        return Err(Refusal::StoreFull);
     }
     match checked {
-        Verdict::Refused(r) => PlaceAnswer::Refused(r),
-        Verdict::Accepted => {
+        Err(r) => Err(r),
+        Ok(()) => {
             if room.arena - next < word_count(width) {
-                PlaceAnswer::Refused(Refusal::NoRoom)
+                Err(Refusal::NoRoom)
             } else {
-                PlaceAnswer::At(next)
+                Ok(next)
             }
         }
     }
@@ -76,35 +74,35 @@ pub fn plan_step<'a>(
     signs: &'a [bool; 320],
     fills: &'a [bool; 320],
     room: Room,
-) -> PlanAnswer
+) -> Result<PlannedStep, Refusal>
     requires { (count ≤ 320) × (next ≡ words_taken (headers_by count widths.now signs.now fills.now)) × (next ≤ room.arena) }
-    ensures { plan_answer result
+    ensures { answer result
         ≡ after (check_step room (headers_by count widths.now signs.now fills.now) step)
         (given (planned (headers_by count widths.now signs.now fills.now) step)) }
 {
     if 320 <= count {
-        return PlanAnswer::Refused(Refusal::StoreFull);
+        return Err(Refusal::StoreFull);
     }
     let t = named(step);
     let a = t.a as usize;
     let b = t.b as usize;
     let c = t.c as usize;
     if (count <= a) | (count <= b) | (count <= c) {
-        return PlanAnswer::Refused(Refusal::NoSuchCell);
+        return Err(Refusal::NoSuchCell);
     }
     let x = header_at(a, widths, signs, fills);
     let y = header_at(b, widths, signs, fills);
     let z = header_at(c, widths, signs, fills);
     let op = step.op;
     if arms_refused(op, y, z) {
-        return PlanAnswer::Refused(Refusal::BadArms);
+        return Err(Refusal::BadArms);
     }
     let h = result_header(op, x, y, z);
     let w = word_count(h.width);
     if (room.arena - next < w) | (room.scratch < w) {
-        return PlanAnswer::Refused(Refusal::NoRoom);
+        return Err(Refusal::NoRoom);
     }
-    PlanAnswer::Planned(PlannedStep {
+    Ok(PlannedStep {
         op: op,
         a: a,
         b: b,

@@ -4,13 +4,12 @@
 ghost use Rattle.std.specs.Prelude.{◌≡◌, ◌+◌, ◌-◌, ◌*◌, ◌/◌, ◌%◌, ◌^◌, ◌<◌, max, length, if◌then◌else◌};
 ghost use Rattle.std.specs.Float.Ieee as Ieee;
 ghost use Rattle.std.specs.Float.{binary64};
-ghost use Rattle.refusal.specs.Outcome.{outcome};
+ghost use Rattle.refusal.specs.Outcome.{outcome, answer};
 ghost use Rattle.words.specs.Planes.{word_count, lent_by, planes_of};
-ghost use Rattle.value.specs.Answers.{vector_answer};
 ghost use Rattle.real.specs.Round.{at_half, whole_near, scaled, rounded, real_vector, from_real};
 
-use refusal::{Refusal, Verdict};
-use value::{MAX_WIDTH, VectorAnswer, check_output, plain_header};
+use refusal::Refusal;
+use value::{MAX_WIDTH, check_output, plain_header};
 use words::unchecked::{kept, ones};
 
 // A whole number: digits * 2^shift, below zero if negative.
@@ -153,19 +152,19 @@ fn at_least_one(width: u32) -> u32
 }
 
 // A real as an unsigned vector: rounded, half away from zero, modulo 2 to the width, which is at least 1. Infinite and NaN give 0.
-pub fn from_real_wrapped(f: f64, width: u32, value: &mut [u64], unknown: &mut [u64]) -> VectorAnswer
-    ensures { outcome (vector_answer result) (lent_by value.new unknown.new)
+pub fn from_real_wrapped(f: f64, width: u32, value: &mut [u64], unknown: &mut [u64]) -> Result<Header, Refusal>
+    ensures { outcome (answer result) (lent_by value.new unknown.new)
         ≡ from_real f width (lent_by value.old unknown.old) }
 {
     if MAX_WIDTH < width {
-        return VectorAnswer::Refused(Refusal::TooWide);
+        return Err(Refusal::TooWide);
     }
     let w = at_least_one(width);
     match check_output(w, value, unknown) {
-        Verdict::Refused(r) => VectorAnswer::Refused(r),
-        Verdict::Accepted => {
+        Err(r) => Err(r),
+        Ok(()) => {
             write_real(f, w, value, unknown);
-            VectorAnswer::Vector(plain_header(w))
+            Ok(plain_header(w))
         }
     }
 }

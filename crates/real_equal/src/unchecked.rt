@@ -3,13 +3,13 @@ ghost use Rattle.std.specs.Prelude.{◌≡◌};
 ghost use Rattle.std.specs.Float.Ieee as Ieee;
 ghost use Rattle.std.specs.Float.{binary64};
 ghost use Rattle.words.specs.Planes.{Plane, lent_by};
-ghost use Rattle.value.specs.Answers.{bit_answer};
+ghost use Rattle.refusal.specs.Outcome.{answer};
 ghost use Rattle.value.specs.Checks.{vector};
 ghost use Rattle.real_equal.specs.Numeric.{vector_integer, real_of, WholePlanes, real_equality};
 
+use refusal::Refusal;
 use bit::LogicBit;
-use refusal::Verdict;
-use value::{BitAnswer, Header, Operand, check_operand};
+use value::{Header, Operand, check_operand};
 use words::unchecked::{kept, ones};
 
 // The float nearest to a vector's integer, in which unknown bits count as 0.
@@ -51,19 +51,19 @@ pub fn equal_reals(
     b: Operand,
     bv: &[u64],
     bu: &[u64],
-) -> BitAnswer
-    ensures { bit_answer result
+) -> Result<LogicBit, Refusal>
+    ensures { answer result
         ≡ real_equality a (lent_by av.now au.now) b (lent_by bv.now bu.now) }
 {
     match check_operand(a, av, au) {
-        Verdict::Refused(r) => BitAnswer::Refused(r),
-        Verdict::Accepted => match check_operand(b, bv, bu) {
-            Verdict::Refused(r) => BitAnswer::Refused(r),
-            Verdict::Accepted => {
+        Err(r) => Err(r),
+        Ok(()) => match check_operand(b, bv, bu) {
+            Err(r) => Err(r),
+            Ok(()) => {
                 if operand_real(a, av, au) == operand_real(b, bv, bu) {
-                    return BitAnswer::Bit(LogicBit::One);
+                    return Ok(LogicBit::One);
                 }
-                BitAnswer::Bit(LogicBit::Zero)
+                Ok(LogicBit::Zero)
             }
         },
     }

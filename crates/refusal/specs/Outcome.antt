@@ -1,8 +1,7 @@
 -- What a call answers, and what it leaves behind. Document 01, "Numbers for what is not done": a refusal returns its number only, and no lent
 -- word or store field changes.
-use Rattle.std.specs.Prelude.{ℕ}
-use Rattle.refusal.specs.declared.Verdict.{Verdict}
-use Rattle.refusal.specs.declared.Verdict.TheVariants.{Accepted, Refused}
+use Rattle.std.specs.Prelude.{ℕ, Result, Ok, Err}
+use Rattle.refusal.specs.declared.Refusal.{Refusal}
 use Rattle.refusal.specs.Refusals.{refusal_number}
 
 -- a result, or the number of a refusal
@@ -15,10 +14,11 @@ pub record Outcome (A S : Type 0) : Type 0 where
   pub answer : Answer A
   pub left : S
 
--- the verdict in the paper's numbers
-abbrev pub verdict : Verdict → Answer Unit
-verdict Accepted = given tt
-verdict (Refused r) = refused (refusal_number r)
+module _ {A : Type 0} where
+  -- a result of the code in the paper's numbers
+  abbrev pub answer : Result A Refusal → Answer A
+  answer (Ok a) = given a
+  answer (Err r) = refused (refusal_number r)
 
 module _ {A : Type 0} where
   -- the first check that refuses decides; where none does, the answer is a

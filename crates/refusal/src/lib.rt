@@ -1,4 +1,4 @@
-// The numbered refusals of documents 01 and 02, one case for each number, and the verdict of a check.
+// The numbered refusals of documents 01 and 02, one case for each number, 
 #![tactic(auto)]
 
 ghost use Rattle.std.specs.Prelude.{◌≡◌};
@@ -31,13 +31,6 @@ pub enum Refusal {
     BadStore,
     // 15: the text is no sized literal, or the vector to write as one is a fill or not 1 to 4,096 bits wide.
     BadLiteral,
-}
-
-// Whether a check, or a call that answers nothing else, refuses.
-#[derive(Clone, Copy)]
-pub enum Verdict {
-    Accepted,
-    Refused(Refusal),
 }
 
 // The number of a refusal.

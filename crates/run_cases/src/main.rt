@@ -3,7 +3,7 @@
 #![tactic(auto)]
 
 use agreement::same_words;
-use fourstate::cellstore::{CellAnswer, Store};
+use fourstate::cellstore::Store;
 use fourstate::steplists::{Op, RunEnding, Step, run};
 use fourstate::vectors::Header;
 use std::io;
@@ -66,8 +66,8 @@ fn store_agrees() -> bool {
     let d = c.store.add_step(or, &mut av, &mut au, &mut sv, &mut su);
     let answer = d.answer;
     match answer {
-        CellAnswer::Refused(_) => false,
-        CellAnswer::Added(n) => n == 3 && hold_case(&av, &au),
+        Err(_) => false,
+        Ok(n) => n == 3 && hold_case(&av, &au),
     }
 }
 

@@ -1,4 +1,5 @@
--- What the equation of `read_list` says of an accepted list to those who use its arrays and the text.
+-- What the equation of `read_list` says of an accepted list to those who use Rattle.std.specs.Prelude.{Ok}
+use its arrays and the text.
 --     listed          the text says the list that the arrays hold
 --     listed-counts   the counts fit the arrays
 --     listed-places   an input is at most 4,096 wide, no signed fill, and its characters stand in the text
@@ -9,7 +10,6 @@ use Prim.Native.Nat.{ℕ, zero, suc, ◌-◌, ◌≤◌, ◌<◌}
 use native.Mathlib.Omega.{arith}
 use lib.ListN.{length, get_or}
 use Rattle.refusal.specs.Outcome.Answer.{given}
-use Rattle.refusal.specs.declared.Verdict.TheVariants.{Accepted}
 use Rattle.words.proofs.Planes.{length-tabulate, get_d_tabulate}
 use Rattle.text.specs.Exact.{All}
 use Rattle.text.proofs.Vectors.{bits-length}
@@ -25,7 +25,7 @@ all-at P [] d i p h = absurd (omega arith)
 all-at P (a ∷ l) d zero p h = p.0
 all-at P (a ∷ l) d (suc i) p h = all-at P l d i p.1 (omega arith)
 
-module _ (s : List ℕ) (r : ListAnswer) (e : list_answer s r ≡ whole s) (ok : r.verdict ≡ Accepted) where
+module _ (s : List ℕ) (r : ListAnswer) (e : list_answer s r ≡ whole s) (ok : r.verdict ≡ (Ok tt)) where
   pub listed : whole s ≡ given (list_in s r.list)
   listed = sym e ∙ rw ok
 

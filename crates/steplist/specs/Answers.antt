@@ -1,7 +1,7 @@
 -- What the code's answers say of the text that they were read from: the bits of an input stay in the text, at its place. Document 01, "Which places
 -- take which form": where an answer is an enum, a definition gives this paper's number and values for each case.
 use Rattle.std.specs.Prelude.{ℕ, ◌-◌, List, length, get_or}
-use Rattle.refusal.specs.Outcome.{Answer, verdict, after}
+use Rattle.refusal.specs.Outcome.{Answer, after, answer}
 use Rattle.refusal.specs.Outcome.Answer.{given}
 use Rattle.words.specs.Vector.{tabulate}
 use Rattle.text.specs.Read.{Got, next, many}
@@ -41,9 +41,9 @@ steps_in n xs = tabulate n (λ i. get_or xs i no_step)
 abbrev pub list_in : List ℕ → code.StepList → StepList
 list_in s l = record { inputs = inputs_in s l.input_count l.inputs; steps = steps_in l.step_count l.steps }
 
--- the verdict in the paper's numbers; the list counts where it is accepted
+-- the answer in the paper's numbers; the list counts where it is accepted
 abbrev pub list_answer : List ℕ → ListAnswer → Answer StepList
-list_answer s r = after (verdict r.verdict) (given (list_in s r.list))
+list_answer s r = after (answer r.verdict) (given (list_in s r.list))
 
 -- n values from a place on, if it is a place of the text
 abbrev pub many_at : {A : Type 0} → List ℕ → (List ℕ → Got A) → ℕ → ℕ → Got (List A)

@@ -9,7 +9,7 @@ ghost use Rattle.steplist.specs.Answers.{op_in, input_in, inputs_in, steps_in, m
 
 use ops::unchecked::op_at;
 use ops::{Op, Step, number_count};
-use refusal::{Refusal, Verdict};
+use refusal::Refusal;
 use text::unchecked::one_of;
 use value::Header;
 
@@ -32,7 +32,7 @@ pub struct StepList {
 // Whether a text says a list, and the list if it does.
 #[derive(Clone, Copy)]
 pub struct ListAnswer {
-    pub verdict: Verdict,
+    pub verdict: Result<(), Refusal>,
     pub list: StepList,
 }
 
@@ -210,12 +210,12 @@ pub fn read_list(s: &[u8]) -> ListAnswer
     };
     if (b.next == s.len()) & (s.len() <= 65536) {
         ListAnswer {
-            verdict: Verdict::Accepted,
+            verdict: Ok(()),
             list,
         }
     } else {
         ListAnswer {
-            verdict: Verdict::Refused(Refusal::BadFormat),
+            verdict: Err(Refusal::BadFormat),
             list,
         }
     }

@@ -9,7 +9,7 @@ ghost use Rattle.steps.specs.Run.{run_text, final_of, final_by};
 
 use cells::Fields;
 use load::load_list;
-use refusal::{Refusal, Verdict};
+use refusal::Refusal;
 use run_lines::unchecked::put_refused;
 use store::{Store, store_of};
 use unchecked::run_steps;
@@ -63,7 +63,7 @@ pub fn run(
     let inputs = l.inputs;
     let verdict = inputs.verdict;
     match verdict {
-        Verdict::Refused(r) => {
+        Err(r) => {
             let f = inputs.fields;
             let n = refusal::number(r) as u32;
             RunAnswer {
@@ -72,7 +72,7 @@ pub fn run(
                 ending: RunEnding::Refused(r, 0),
             }
         }
-        Verdict::Accepted => {
+        Ok(()) => {
             let p = run_steps(l.list, inputs, av, au, sv, su, out);
             let g = p.fields;
             let ending = p.ending;

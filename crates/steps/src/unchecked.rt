@@ -13,7 +13,6 @@ use load::Inputs;
 use refusal::Refusal;
 use run_lines::unchecked::{put_done, put_refused, put_step};
 use steplist::StepList;
-use store::StepAnswer;
 use store::unchecked::take_step;
 use words::word_count;
 
@@ -56,7 +55,7 @@ pub fn run_steps(
         match take_step(
             step, n, next, &f.starts, &f.widths, &f.signs, &f.fills, av, au, sv, su,
         ) {
-            StepAnswer::Refused(r) => {
+            Err(r) => {
                 let number = k as u32 + 1;
                 return Pass {
                     fields: f,
@@ -65,7 +64,7 @@ pub fn run_steps(
                     ending: RunEnding::Refused(r, number),
                 };
             }
-            StepAnswer::Added(c) => {
+            Ok(c) => {
                 let h = c.header;
                 at = put_step(out, at, n as u32, h, sv, su);
                 f.starts[n] = c.start;

@@ -1,9 +1,8 @@
 -- Document 01, "Cell store" and "Numbers for what is not done": at most 320 cells, what a store and its arenas must agree on, and what adding an
 -- input does to both.
 use Rattle.std.specs.Prelude.{◌≡◌, Bool, true, List, [], map, ℕ, ◌+◌, min, length, take, set, replicate}
-use Rattle.refusal.specs.Refusals.{refusal_number}
 use Rattle.refusal.specs.Outcome.{Answer, Outcome, outcome, after, or_refuse}
-use Rattle.refusal.specs.Outcome.Answer.{given, refused}
+use Rattle.refusal.specs.Outcome.Answer.{given}
 use Rattle.words.specs.Planes.{Planes, lent, lent_by, planes_of}
 use Rattle.value.specs.declared.Header.{Header}
 use Rattle.value.specs.Checks.{vector, check_vector}
@@ -15,13 +14,6 @@ use Rattle.cells.specs.declared.Fields.{Fields}
 use Rattle.cells.specs.Cells.{cell_vector, cell_headers, word_behind, agree, check_cells, put_planes}
 use Rattle.cells.specs.Places.{fields_by, places_of, no_cell}
 use Rattle.store.specs.declared.Store.{Store}
-use Rattle.store.specs.declared.CellAnswer.{CellAnswer}
-use Rattle.store.specs.declared.CellAnswer.TheVariants as cell-answer
-
--- the answer in the paper's numbers
-abbrev pub cell_answer : CellAnswer → Answer ℕ
-cell_answer (cell-answer.Added n) = given n
-cell_answer (cell-answer.Refused r) = refused (refusal_number r)
 
 -- ---- what is stored
 

@@ -1,5 +1,6 @@
 -- Document 01, "Cell store" and "Numbers for what is not done": what an input and a step do where store and arenas agree, so that 14 is not asked.
-use Rattle.std.specs.Prelude.{◌≡◌, true, ℕ}
+use Rattle.refusal.specs.declared.Refusal.{Refusal}
+use Rattle.std.specs.Prelude.{◌≡◌, true, ℕ, Result, Ok, Err}
 use Rattle.refusal.specs.Refusals.{refusal_number}
 use Rattle.refusal.specs.Outcome.{Answer, Outcome, outcome, or_refuse}
 use Rattle.refusal.specs.Outcome.Answer.{given, refused}
@@ -10,8 +11,6 @@ use Rattle.machine.specs.Machine.{check_input_behind}
 use Rattle.cells.specs.declared.Fields.{Fields}
 use Rattle.cells.specs.Cells.{put_planes}
 use Rattle.store.specs.declared.Store.{Store}
-use Rattle.store.specs.declared.StepAnswer.{StepAnswer}
-use Rattle.store.specs.declared.StepAnswer.TheVariants as step-answer
 use Rattle.store.specs.Store.{state, store_of, next_word, agrees, with_cell, room_of, no_scratch}
 
 -- the first n cells of f agree with the arenas a, and take their first k words
@@ -26,10 +25,10 @@ take_input n k h p arenas =
     (outcome (given k) (put_planes k (planes_of (vector_of h.width p)) arenas))
 
 -- a step is refused, or its cell is added behind n others
-abbrev pub taken_answer : ℕ → StepAnswer → Answer ℕ
-taken_answer n (step-answer.Added c) = given n
-taken_answer n (step-answer.Refused r) = refused (refusal_number r)
+abbrev pub taken_answer : ℕ → Result Cell Refusal → Answer ℕ
+taken_answer n (Ok c) = given n
+taken_answer n (Err r) = refused (refusal_number r)
 
-abbrev pub taken_store : StepAnswer → Store → Store
-taken_store (step-answer.Added c) s = with_cell c s
-taken_store (step-answer.Refused r) s = s
+abbrev pub taken_store : Result Cell Refusal → Store → Store
+taken_store (Ok c) s = with_cell c s
+taken_store (Err r) s = s

@@ -3,14 +3,14 @@
 #![tactic(auto)]
 
 ghost use Rattle.std.specs.Prelude.{◌≡◌};
-ghost use Rattle.refusal.specs.Outcome.{outcome};
+ghost use Rattle.refusal.specs.Outcome.{outcome, answer};
 ghost use Rattle.words.specs.Planes.{lent_by};
 ghost use Rattle.cells.specs.Places.{fields_of};
-ghost use Rattle.store.specs.Store.{state_by, empty_store, store_by, cell_answer, add_input};
+ghost use Rattle.store.specs.Store.{state_by, empty_store, store_by, add_input};
 ghost use Rattle.store.specs.Step.{memory_by, add_step};
 
 use cells::unchecked::cell_at;
-use cells::{Cell, Fields, PlaceAnswer, check_cells, no_fields};
+use cells::{Cell, Fields, check_cells, no_fields};
 use ops::Step;
 use refusal::Refusal;
 use unchecked::{take_input, take_step, with_cell};
@@ -25,24 +25,10 @@ pub struct Store {
     pub count: usize,
 }
 
-// The number of the cell that was added, or the refusal.
-#[derive(Clone, Copy)]
-pub enum CellAnswer {
-    Added(usize),
-    Refused(Refusal),
-}
-
-// The cell that a step has added, or the refusal.
-#[derive(Clone, Copy)]
-pub enum StepAnswer {
-    Added(Cell),
-    Refused(Refusal),
-}
-
 // An answer, and the store as the call leaves it.
 #[derive(Clone, Copy)]
 pub struct Stored {
-    pub answer: CellAnswer,
+    pub answer: Result<usize, Refusal>,
     pub store: Store,
 }
 
@@ -70,22 +56,22 @@ impl Store {
         av: &mut [u64],
         au: &mut [u64],
     ) -> Stored
-        ensures { outcome (cell_answer result.answer) (state_by result.store av.new au.new)
+        ensures { outcome (answer result.answer) (state_by result.store av.new au.new)
             ≡ add_input (state_by self av.old au.old) h (lent_by value.now unknown.now) }
     {
         let cells = self.cells;
         match check_cells(cells, self.count, av, au) {
-            PlaceAnswer::Refused(r) => Stored {
-                answer: CellAnswer::Refused(r),
+            Err(r) => Stored {
+                answer: Err(r),
                 store: self,
             },
-            PlaceAnswer::At(next) => match take_input(self.count, next, h, value, unknown, av, au) {
-                PlaceAnswer::Refused(r) => Stored {
-                    answer: CellAnswer::Refused(r),
+            Ok(next) => match take_input(self.count, next, h, value, unknown, av, au) {
+                Err(r) => Stored {
+                    answer: Err(r),
                     store: self,
                 },
-                PlaceAnswer::At(at) => Stored {
-                    answer: CellAnswer::Added(self.count),
+                Ok(at) => Stored {
+                    answer: Ok(self.count),
                     store: with_cell(
                         self,
                         Cell {
@@ -107,27 +93,27 @@ impl Store {
         sv: &mut [u64],
         su: &mut [u64],
     ) -> Stored
-        ensures { outcome (cell_answer result.answer) (memory_by result.store av.new au.new sv.new su.new)
+        ensures { outcome (answer result.answer) (memory_by result.store av.new au.new sv.new su.new)
             ≡ add_step (memory_by self av.old au.old sv.old su.old) step }
     {
         let cells = self.cells;
         match check_cells(cells, self.count, av, au) {
-            PlaceAnswer::Refused(r) => Stored {
-                answer: CellAnswer::Refused(r),
+            Err(r) => Stored {
+                answer: Err(r),
                 store: self,
             },
-            PlaceAnswer::At(next) => {
+            Ok(next) => {
                 let f = fields_of(self);
                 match take_step(
                     step, self.count, next, &f.starts, &f.widths, &f.signs, &f.fills, av, au, sv,
                     su,
                 ) {
-                    StepAnswer::Refused(r) => Stored {
-                        answer: CellAnswer::Refused(r),
+                    Err(r) => Stored {
+                        answer: Err(r),
                         store: self,
                     },
-                    StepAnswer::Added(c) => Stored {
-                        answer: CellAnswer::Added(self.count),
+                    Ok(c) => Stored {
+                        answer: Ok(self.count),
                         store: with_cell(self, c),
                     },
                 }

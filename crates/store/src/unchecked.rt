@@ -1,20 +1,19 @@
 // A store with one cell more, and an input and a step taken where store and arenas agree.
 ghost use Rattle.std.specs.Prelude.{◌≡◌, ◌≤◌, ◌<◌, length};
-ghost use Rattle.refusal.specs.Outcome.{outcome};
+ghost use Rattle.refusal.specs.Outcome.{outcome, answer};
 ghost use Rattle.words.specs.Planes.{lent_by};
-ghost use Rattle.cells.specs.Cells.{place_answer};
 ghost use Rattle.cells.specs.Places.{fields_by};
 ghost use Rattle.store.specs.Store.{store_by, with_cell};
 ghost use Rattle.store.specs.Step.{memory_by, add_step};
 ghost use Rattle.store.specs.Taken.{Laid, take_input, taken_answer, taken_store};
 
-use crate::{StepAnswer, Store};
+use refusal::Refusal;
+use crate::Store;
 use cells::unchecked::copy_behind;
-use cells::{Cell, PlaceAnswer};
+use cells::Cell;
 use execute::unchecked::execute;
 use machine::Room;
 use ops::Step;
-use plan::PlanAnswer;
 use plan::unchecked::{plan_input, plan_step};
 use value::{Header, check_vector};
 use words::unchecked::least;
@@ -41,9 +40,9 @@ pub fn take_input(
     unknown: &[u64],
     av: &mut [u64],
     au: &mut [u64],
-) -> PlaceAnswer
+) -> Result<usize, Refusal>
     requires { (next ≤ length av.old) × (length av.old ≡ length au.old) }
-    ensures { outcome (place_answer result) (lent_by av.new au.new)
+    ensures { outcome (answer result) (lent_by av.new au.new)
         ≡ take_input count next h (lent_by value.now unknown.now) (lent_by av.old au.old) }
 {
     let checked = check_vector(h, value, unknown);
@@ -52,10 +51,10 @@ pub fn take_input(
         scratch: 0,
     };
     match plan_input(count, next, h.width, checked, room) {
-        PlaceAnswer::Refused(r) => PlaceAnswer::Refused(r),
-        PlaceAnswer::At(at) => {
+        Err(r) => Err(r),
+        Ok(at) => {
             copy_behind(at, word_count(h.width), value, unknown, av, au);
-            PlaceAnswer::At(at)
+            Ok(at)
         }
     }
 }
@@ -73,7 +72,7 @@ pub fn take_step<'a>(
     au: &mut [u64],
     sv: &mut [u64],
     su: &mut [u64],
-) -> StepAnswer
+) -> Result<Cell, Refusal>
     requires { Laid (fields_by starts.now widths.now signs.now fills.now) count next (lent_by av.old au.old) }
     ensures { outcome (taken_answer count result)
         (memory_by (taken_store result (store_by count starts.now widths.now signs.now fills.now))
@@ -88,11 +87,11 @@ pub fn take_step<'a>(
         scratch: least(sv.len(), su.len()),
     };
     match plan_step(step, count, next, widths, signs, fills, room) {
-        PlanAnswer::Refused(r) => StepAnswer::Refused(r),
-        PlanAnswer::Planned(p) => {
+        Err(r) => Err(r),
+        Ok(p) => {
             execute(p, starts, widths, signs, fills, av, au, sv, su);
             let h = p.header;
-            StepAnswer::Added(Cell {
+            Ok(Cell {
                 start: p.start,
                 header: h,
             })

@@ -2,11 +2,11 @@
 #![tactic(auto)]
 
 ghost use Rattle.std.specs.Prelude.{◌≡◌};
-ghost use Rattle.store.specs.Store.{cell_answer};
+ghost use Rattle.refusal.specs.Outcome.{answer};
 ghost use Rattle.cells.specs.Places.{fields_by, fields_of};
 ghost use Rattle.store_abi.specs.Settled.{settled, settled_by};
 
-use store::{CellAnswer, Store, Stored, fields_of};
+use store::{Store, Stored, fields_of};
 
 // 0 where the call was done, and then the number of the new cell.
 #[repr(C)]
@@ -46,15 +46,15 @@ pub fn settle(
     fills: &mut [bool; 320],
 ) -> CellResult
     ensures { settled result (fields_by starts.new widths.new signs.new fills.new)
-        ≡ settled_by (cell_answer r.answer) r.store (fields_by starts.old widths.old signs.old fills.old) }
+        ≡ settled_by (answer r.answer) r.store (fields_by starts.old widths.old signs.old fills.old) }
 {
     let answer = r.answer;
     match answer {
-        CellAnswer::Refused(x) => CellResult {
+        Err(x) => CellResult {
             refusal: refusal::number(x),
             cell: 0,
         },
-        CellAnswer::Added(n) => {
+        Ok(n) => {
             save(r.store, starts, widths, signs, fills);
             CellResult {
                 refusal: 0,

@@ -2,9 +2,8 @@
 use Rattle.std.specs.Prelude.{◌≡◌, false, cond, pos, Float}
 use Rattle.std.specs.Float.Ieee as Ieee
 use Rattle.std.specs.Float.{fin}
-use Rattle.refusal.specs.Refusals.{refusal_number}
 use Rattle.refusal.specs.Outcome.{Answer, after}
-use Rattle.refusal.specs.Outcome.Answer.{given, refused}
+use Rattle.refusal.specs.Outcome.Answer.{given}
 use Rattle.words.specs.Planes.{Planes, vector_of, Words64}
 use Rattle.value.specs.declared.Header.{Header}
 use Rattle.value.specs.declared.Operand.{Operand}
@@ -13,8 +12,6 @@ use Rattle.value.specs.Checks.{check_vector, check_operand}
 use Rattle.reduce_words.specs.declared.Truth.{Truth}
 use Rattle.reduce_words.specs.declared.Truth.TheVariants.{False, True}
 use Rattle.reduce_words.specs.Fold.{truth_of, truth_by_words}
-use Rattle.truth.specs.declared.TruthAnswer.{TruthAnswer}
-use Rattle.truth.specs.declared.TruthAnswer.TheVariants as truth-answer
 
 -- the code's 0.0
 abbrev pub real_zero : Float
@@ -28,11 +25,6 @@ real_truth x = cond (Ieee.ne x real_zero) True False
 abbrev pub operand_truth : Operand → Planes → Truth
 operand_truth (Vector h) p = truth_of (vector_of h.width p)
 operand_truth (Real x) p = real_truth x
-
--- the enum in the paper's values and numbers
-abbrev pub truth_answer : TruthAnswer → Answer Truth
-truth_answer (truth-answer.Truth t) = given t
-truth_answer (truth-answer.Refused r) = refused (refusal_number r)
 
 -- `is_nonzero`: 1 to 4 for a vector, 2 for a real whose planes are not empty, or the truth
 abbrev pub is_nonzero : Operand → Planes → Answer Truth

@@ -5,50 +5,44 @@ ghost use Rattle.std.specs.Prelude.{◌≡◌, cond};
 ghost use Rattle.bit.specs.Rules.{and_bit, or_bit};
 ghost use Rattle.words.specs.Planes.{lent_by};
 ghost use Rattle.value.specs.declared.Operand.TheVariants.{Vector, Real};
-ghost use Rattle.value.specs.Answers.{bit_answer};
-ghost use Rattle.truth.specs.Truth.{truth_answer, is_nonzero};
+ghost use Rattle.refusal.specs.Outcome.{answer};
+ghost use Rattle.truth.specs.Truth.{is_nonzero};
 ghost use Rattle.truth.specs.Logic.{combined, logic_and, logic_or};
 
 use reduce_words::unchecked::truth;
 use reduce_words::{Truth, truth_bit};
-use refusal::{Refusal, Verdict};
-use value::{BitAnswer, Header, Operand};
-
-#[derive(Clone, Copy)]
-pub enum TruthAnswer {
-    Truth(Truth),
-    Refused(Refusal),
-}
+use refusal::Refusal;
+use value::{Header, Operand};
 
 // The truth of a vector.
-fn vector_truth(h: Header, value: &[u64], unknown: &[u64]) -> TruthAnswer
-    ensures { truth_answer result ≡ is_nonzero (Vector h) (lent_by value.now unknown.now) }
+fn vector_truth(h: Header, value: &[u64], unknown: &[u64]) -> Result<Truth, Refusal>
+    ensures { answer result ≡ is_nonzero (Vector h) (lent_by value.now unknown.now) }
 {
     let width = h.width;
     match value::check_vector(h, value, unknown) {
-        Verdict::Refused(r) => TruthAnswer::Refused(r),
-        Verdict::Accepted => TruthAnswer::Truth(truth(width, value, unknown)),
+        Err(r) => Err(r),
+        Ok(()) => Ok(truth(width, value, unknown)),
     }
 }
 
 // The truth of a real.
-fn real_truth(x: f64, value: &[u64], unknown: &[u64]) -> TruthAnswer
-    ensures { truth_answer result ≡ is_nonzero (Real x) (lent_by value.now unknown.now) }
+fn real_truth(x: f64, value: &[u64], unknown: &[u64]) -> Result<Truth, Refusal>
+    ensures { answer result ≡ is_nonzero (Real x) (lent_by value.now unknown.now) }
 {
     match value::check_operand(Operand::Real(x), value, unknown) {
-        Verdict::Refused(r) => TruthAnswer::Refused(r),
-        Verdict::Accepted => {
+        Err(r) => Err(r),
+        Ok(()) => {
             if x != 0.0 {
-                return TruthAnswer::Truth(Truth::True);
+                return Ok(Truth::True);
             }
-            TruthAnswer::Truth(Truth::False)
+            Ok(Truth::False)
         }
     }
 }
 
 // True on a known 1, else unknown on an unknown bit, else false; a real is true if not equal to 0.
-pub fn is_nonzero(o: Operand, value: &[u64], unknown: &[u64]) -> TruthAnswer
-    ensures { truth_answer result ≡ is_nonzero o (lent_by value.now unknown.now) }
+pub fn is_nonzero(o: Operand, value: &[u64], unknown: &[u64]) -> Result<Truth, Refusal>
+    ensures { answer result ≡ is_nonzero o (lent_by value.now unknown.now) }
 {
     match o {
         Operand::Vector(h) => vector_truth(h, value, unknown),
@@ -65,21 +59,21 @@ fn combine(
     b: Operand,
     bv: &[u64],
     bu: &[u64],
-) -> BitAnswer
-    ensures { bit_answer result
+) -> Result<LogicBit, Refusal>
+    ensures { answer result
         ≡ combined (cond by_and and_bit or_bit) a (lent_by av.now au.now) b (lent_by bv.now bu.now) }
 {
     match is_nonzero(a, av, au) {
-        TruthAnswer::Refused(r) => BitAnswer::Refused(r),
-        TruthAnswer::Truth(x) => match is_nonzero(b, bv, bu) {
-            TruthAnswer::Refused(r) => BitAnswer::Refused(r),
-            TruthAnswer::Truth(y) => {
+        Err(r) => Err(r),
+        Ok(x) => match is_nonzero(b, bv, bu) {
+            Err(r) => Err(r),
+            Ok(y) => {
                 let left = truth_bit(x);
                 let right = truth_bit(y);
                 if by_and {
-                    return BitAnswer::Bit(bit::and(left, right));
+                    return Ok(bit::and(left, right));
                 }
-                BitAnswer::Bit(bit::or(left, right))
+                Ok(bit::or(left, right))
             }
         },
     }
@@ -93,16 +87,16 @@ pub fn logic_and(
     b: Operand,
     bv: &[u64],
     bu: &[u64],
-) -> BitAnswer
-    ensures { bit_answer result
+) -> Result<LogicBit, Refusal>
+    ensures { answer result
         ≡ logic_and a (lent_by av.now au.now) b (lent_by bv.now bu.now) }
 {
     combine(true, a, av, au, b, bv, bu)
 }
 
 // 1 if either operand is true, 0 if both are false, else x.
-pub fn logic_or(a: Operand, av: &[u64], au: &[u64], b: Operand, bv: &[u64], bu: &[u64]) -> BitAnswer
-    ensures { bit_answer result
+pub fn logic_or(a: Operand, av: &[u64], au: &[u64], b: Operand, bv: &[u64], bu: &[u64]) -> Result<LogicBit, Refusal>
+    ensures { answer result
         ≡ logic_or a (lent_by av.now au.now) b (lent_by bv.now bu.now) }
 {
     combine(false, a, av, au, b, bv, bu)

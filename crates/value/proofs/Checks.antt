@@ -1,21 +1,22 @@
--- What a check answers where its verdict was told, and what the checks of planes, of a vector and of a pair say where they accept.
+-- What a check answers where its answer was told, and what the checks of planes, of a vector and of a pair say where they accept.
 use mathlib.Core.Path.{◌≡◌, refl, sym, ap, ◌∙◌, subst}
 use mathlib.Core.Bool.{Bool, true, false, ◌&&◌, cond}
 use Prim.Native.Nat.{ℕ, ◌≤◌}
 use native.Mathlib.Omega.{arith}
 use borrow.Author.Tests.{ltb-false, eqb-true, eqb-false}
+use Rattle.std.specs.Prelude.{Result}
 use lib.Dec.{T, eqb, ltb}
 use lib.ListN.{length}
-use Rattle.refusal.specs.declared.Verdict.{Verdict}
-use Rattle.refusal.specs.Outcome.{Answer, after, verdict}
+use Rattle.refusal.specs.declared.Refusal.{Refusal}
+use Rattle.refusal.specs.Outcome.{Answer, after, answer}
 use Rattle.refusal.specs.Outcome.Answer.{given, refused}
 use Rattle.words.specs.Planes.{word_count, clear_above, Plane, Planes}
 use Rattle.words.proofs.Top.{all-clear}
 use Rattle.value.specs.declared.Header.{Header}
 use Rattle.value.specs.Checks.{max_width, exactly, check_lengths, check_planes, check_vector, check_pair}
 
-pub verdict-told : {v w : Verdict} {a : Answer Unit} → verdict v ≡ a → v ≡ w → a ≡ verdict w
-verdict-told e t = sym e ∙ ap verdict t
+pub told : {A : Type 0} {r s : Result A Refusal} {a : Answer A} → answer r ≡ a → r ≡ s → a ≡ answer s
+told e t = sym e ∙ ap answer t
 
 pub exactly-accepted : (n : ℕ) (p : Planes) (k : ℕ) → exactly n p k ≡ given tt → (length p.value ≡ n) × (length p.unknown ≡ n)
 exactly-accepted n p k h = go (eqb (length p.value) n) refl (eqb (length p.unknown) n) refl h
@@ -29,17 +30,17 @@ exactly-accepted n p k h = go (eqb (length p.value) n) refl (eqb (length p.unkno
 -- the width and the lengths that are accepted
 pub record Lengths (w : ℕ) (p : Planes) : Type 0 where
   pub narrow : w ≤ max_width
-  pub value-length : length p.value ≡ word_count w
-  pub unknown-length : length p.unknown ≡ word_count w
+  pub value_length : length p.value ≡ word_count w
+  pub unknown_length : length p.unknown ≡ word_count w
 
-pub lengths-accepted : (w : ℕ) (p : Planes) → check_lengths w p ≡ given tt → Lengths w p
+pub lengths_accepted : (w : ℕ) (p : Planes) → check_lengths w p ≡ given tt → Lengths w p
 unfolding check_lengths
-lengths-accepted w p h = go (ltb max_width w) refl h
+lengths_accepted w p h = go (ltb max_width w) refl h
   where
     go : (a : Bool) → ltb max_width w ≡ a → ◌≡◌ {A = Answer Unit} (cond a (refused 1) (exactly (word_count w) p 2)) (given tt) → Lengths w p
     go true _ h = let z : ◌≡◌ {A = ℕ} 0 1 = cc in absurd (omega arith)
     go false e h =
-        let l = exactly-accepted (word_count w) p 2 h in record { narrow = ltb-false _ _ e; value-length = l.0; unknown-length = l.1 }
+        let l = exactly-accepted (word_count w) p 2 h in record { narrow = ltb-false _ _ e; value_length = l.0; unknown_length = l.1 }
 
 -- planes that are accepted are those of a vector
 pub record Checked (w : ℕ) (p : Planes) : Type 0 where
@@ -55,11 +56,11 @@ planes-accepted w p h = go (check_lengths w p) refl (clear_above w p.value) refl
         → ◌≡◌ {A = Answer Unit} (after a (cond (b && c) (given tt) (refused 3))) (given tt) → Checked w p
     go (refused n) _ b _ c _ h = let z : ◌≡◌ {A = ℕ} 0 1 = cc in absurd (omega arith)
     go (given t) ea true eb true ec h =
-        let l = lengths-accepted w p ea in
+        let l = lengths_accepted w p ea in
         record {
           narrow = l.narrow;
-          value-plane = record { count = l.value-length; clear = all-clear w p.value (subst T (sym eb) tt) };
-          unknown-plane = record { count = l.unknown-length; clear = all-clear w p.unknown (subst T (sym ec) tt) };
+          value-plane = record { count = l.value_length; clear = all-clear w p.value (subst T (sym eb) tt) };
+          unknown-plane = record { count = l.unknown_length; clear = all-clear w p.unknown (subst T (sym ec) tt) };
         }
     go (given t) _ true _ false _ h = let z : ◌≡◌ {A = ℕ} 0 1 = cc in absurd (omega arith)
     go (given t) _ false _ c _ h = let z : ◌≡◌ {A = ℕ} 0 1 = cc in absurd (omega arith)

@@ -1,14 +1,22 @@
 // A vector's header, the operand of equality and truth, what an entry answers, and the checks of planes and operands.
-#![tactic(auto)]
+#![tactic(
+    auto,
+    using(crate::proofs::Checks::told, crate::proofs::Checks::lengths_accepted),
+    unfolding(
+        crate::specs::Checks::check_lengths,
+        crate::specs::Checks::check_planes,
+        crate::specs::Checks::check_vector,
+        crate::specs::Checks::check_operand,
+        crate::specs::Checks::check_output
+    )
+)]
 
 ghost use Rattle.std.specs.Prelude.{◌≡◌};
-ghost use Rattle.refusal.specs.Outcome.{verdict};
+ghost use Rattle.refusal.specs.Outcome.{answer};
 ghost use Rattle.words.specs.Planes.{lent_by};
 ghost use Rattle.value.specs.Checks.{plain, check_lengths, check_planes, check_vector, check_pair, check_operand, check_output};
 
-use bit::LogicBit;
-use refusal::{Refusal, Verdict};
-use words::Word;
+use refusal::Refusal;
 
 // The widest vector.
 pub const MAX_WIDTH: u32 = 1_048_576;
@@ -28,121 +36,90 @@ pub enum Operand {
     Real(f64),
 }
 
-// A bit of a vector, or the bit that an operator answers with.
-#[derive(Clone, Copy)]
-pub enum BitAnswer {
-    Bit(LogicBit),
-    Refused(Refusal),
-}
-
-// A word of both planes.
-#[derive(Clone, Copy)]
-pub enum WordAnswer {
-    Bits(Word),
-    Refused(Refusal),
-}
-
-// The header of a vector that was written into lent planes.
-#[derive(Clone, Copy)]
-pub enum VectorAnswer {
-    Vector(Header),
-    Refused(Refusal),
-}
-
 // Whether the width and the planes' lengths are in order: 1, then 2.
-pub fn check_lengths(width: u32, value: &[u64], unknown: &[u64]) -> Verdict
-    ensures { verdict result ≡ check_lengths width (lent_by value.now unknown.now) }
+pub fn check_lengths(width: u32, value: &[u64], unknown: &[u64]) -> Result<(), Refusal>
+    ensures { answer result ≡ check_lengths width (lent_by value.now unknown.now) }
 {
     if MAX_WIDTH < width {
-        return Verdict::Refused(Refusal::TooWide);
+        return Err(Refusal::TooWide);
     }
     let n = words::word_count(width);
     if value.len() != n {
-        return Verdict::Refused(Refusal::PlaneLength);
+        return Err(Refusal::PlaneLength);
     }
     if unknown.len() != n {
-        return Verdict::Refused(Refusal::PlaneLength);
+        return Err(Refusal::PlaneLength);
     }
-    Verdict::Accepted
+    Ok(())
 }
 
 // Whether the planes may be those of a vector of that width: 1, then 2, then 3.
-pub fn check_planes(width: u32, value: &[u64], unknown: &[u64]) -> Verdict
-    ensures { verdict result ≡ check_planes width (lent_by value.now unknown.now) }
+pub fn check_planes(width: u32, value: &[u64], unknown: &[u64]) -> Result<(), Refusal>
+    ensures { answer result ≡ check_planes width (lent_by value.now unknown.now) }
 {
-    match check_lengths(width, value, unknown) {
-        Verdict::Refused(r) => Verdict::Refused(r),
-        Verdict::Accepted => {
-            if !words::unchecked::is_clear(value, width) {
-                return Verdict::Refused(Refusal::BitAboveWidth);
-            }
-            if !words::unchecked::is_clear(unknown, width) {
-                return Verdict::Refused(Refusal::BitAboveWidth);
-            }
-            Verdict::Accepted
-        }
+    check_lengths(width, value, unknown)?;
+    if !words::unchecked::is_clear(value, width) {
+        return Err(Refusal::BitAboveWidth);
     }
+    if !words::unchecked::is_clear(unknown, width) {
+        return Err(Refusal::BitAboveWidth);
+    }
+    Ok(())
 }
 
 // Whether a vector may be an operand: 1, 2, 3, then 4.
-pub fn check_vector(h: Header, value: &[u64], unknown: &[u64]) -> Verdict
-    ensures { verdict result ≡ check_vector h (lent_by value.now unknown.now) }
+pub fn check_vector(h: Header, value: &[u64], unknown: &[u64]) -> Result<(), Refusal>
+    ensures { answer result ≡ check_vector h (lent_by value.now unknown.now) }
 {
     let width = h.width;
-    match check_planes(width, value, unknown) {
-        Verdict::Refused(r) => Verdict::Refused(r),
-        Verdict::Accepted => {
-            if h.is_fill {
-                if width == 0 {
-                    return Verdict::Refused(Refusal::EmptyFill);
-                }
-            }
-            Verdict::Accepted
+    check_planes(width, value, unknown)?;
+    if h.is_fill {
+        if width == 0 {
+            return Err(Refusal::EmptyFill);
         }
     }
+    Ok(())
 }
 
 // Whether two vectors may be operands: 1 to 4 for the left one, then for the right one.
-pub fn check_pair(a: Header, av: &[u64], au: &[u64], b: Header, bv: &[u64], bu: &[u64]) -> Verdict
-    ensures { verdict result
+pub fn check_pair(a: Header, av: &[u64], au: &[u64], b: Header, bv: &[u64], bu: &[u64]) -> Result<(), Refusal>
+    ensures { answer result
         ≡ check_pair a (lent_by av.now au.now) b (lent_by bv.now bu.now) }
 {
-    match check_vector(a, av, au) {
-        Verdict::Refused(r) => Verdict::Refused(r),
-        Verdict::Accepted => check_vector(b, bv, bu),
-    }
+    check_vector(a, av, au)?;
+    check_vector(b, bv, bu)
 }
 
 // Whether an operand is in order: a vector by 1 to 4, a real by 2 if a plane is not empty.
-pub fn check_operand(o: Operand, value: &[u64], unknown: &[u64]) -> Verdict
-    ensures { verdict result ≡ check_operand o (lent_by value.now unknown.now) }
+pub fn check_operand(o: Operand, value: &[u64], unknown: &[u64]) -> Result<(), Refusal>
+    ensures { answer result ≡ check_operand o (lent_by value.now unknown.now) }
 {
     match o {
         Operand::Vector(h) => check_vector(h, value, unknown),
         Operand::Real(_) => {
             if value.len() != 0 {
-                return Verdict::Refused(Refusal::PlaneLength);
+                return Err(Refusal::PlaneLength);
             }
             if unknown.len() != 0 {
-                return Verdict::Refused(Refusal::PlaneLength);
+                return Err(Refusal::PlaneLength);
             }
-            Verdict::Accepted
+            Ok(())
         }
     }
 }
 
 // Whether output planes are exactly the words of a result of that width, or 5.
-pub fn check_output(width: u32, value: &[u64], unknown: &[u64]) -> Verdict
-    ensures { verdict result ≡ check_output width (lent_by value.now unknown.now) }
+pub fn check_output(width: u32, value: &[u64], unknown: &[u64]) -> Result<(), Refusal>
+    ensures { answer result ≡ check_output width (lent_by value.now unknown.now) }
 {
     let count = words::word_count(width);
     if value.len() != count {
-        return Verdict::Refused(Refusal::OutputLength);
+        return Err(Refusal::OutputLength);
     }
     if unknown.len() != count {
-        return Verdict::Refused(Refusal::OutputLength);
+        return Err(Refusal::OutputLength);
     }
-    Verdict::Accepted
+    Ok(())
 }
 
 // The header of an unsigned vector that is no fill.

@@ -1,7 +1,8 @@
 // The calls of operators whose answer is a bit, by their numbers in `replay`.
+use refusal::Refusal;
 use abi::{BitResult, bit_result, operand, truth_result};
 use agreement::{Field, is_bit};
-use fourstate::vectors::{BitAnswer, Header};
+use fourstate::vectors::Header;
 use fourstate::{comparisons, reductions};
 use replay::unchecked::{field, plain};
 
@@ -25,7 +26,7 @@ fn of_two(
     b: Field,
     bv: &[u64],
     bu: &[u64],
-) -> BitAnswer {
+) -> Result<LogicBit, Refusal> {
     let x = operand(a.is_real, a.header, a.real);
     let y = operand(b.is_real, b.header, b.real);
     match call {
@@ -44,7 +45,7 @@ fn of_vectors(
     b: Header,
     bv: &[u64],
     bu: &[u64],
-) -> BitAnswer {
+) -> Result<LogicBit, Refusal> {
     match call {
         17 => comparisons::case_eq(a, av, au, b, bv, bu),
         18 => comparisons::casez_eq(a, av, au, b, bv, bu),
@@ -62,7 +63,7 @@ fn of_both(
     b: Field,
     bv: &[u64],
     bu: &[u64],
-) -> BitAnswer {
+) -> Result<LogicBit, Refusal> {
     if call < 17 {
         return of_two(call, a, av, au, b, bv, bu);
     }

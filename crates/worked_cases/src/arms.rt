@@ -1,12 +1,13 @@
 // The call that hands back the arm that a condition picks.
+use refusal::Refusal;
 use abi::operand;
 use agreement::same_words;
 use fourstate::arms::chosen_arm;
-use fourstate::reductions::{Truth, TruthAnswer, is_nonzero};
+use fourstate::reductions::{Truth, is_nonzero};
 use replay::unchecked::field;
 
 // The truth of the condition, which is field 5.
-fn condition(line: &[u8]) -> TruthAnswer {
+fn condition(line: &[u8]) -> Result<Truth, Refusal> {
     let mut value = [0u64; 65];
     let mut unknown = [0u64; 65];
     let c = field(line, 5, &mut value, &mut unknown);
@@ -50,7 +51,7 @@ pub(crate) fn chooses<'a>(line: &[u8], av: &'a [u64], au: &'a [u64]) -> bool {
     let m = b.value;
     let n = b.unknown;
     match condition(line) {
-        TruthAnswer::Truth(t) => are_chosen(t, line, av, au, &value[0..m], &unknown[0..n]),
-        TruthAnswer::Refused(_) => false,
+        Ok(t) => are_chosen(t, line, av, au, &value[0..m], &unknown[0..n]),
+        Err(_) => false,
     }
 }

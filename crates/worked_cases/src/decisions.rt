@@ -1,9 +1,9 @@
 // The calls that tell which rule decided a comparison, by their numbers in `replay`.
+use refusal::Refusal;
 use crate::lent_bits::number;
 use abi::{decision_result, operand};
 use agreement::{Field, is_decision};
 use fourstate::comparisons;
-use fourstate::comparisons::DecisionAnswer;
 use replay::unchecked::{field, plain};
 
 // A decision on two operands.
@@ -15,7 +15,7 @@ fn decision(
     b: Field,
     bv: &[u64],
     bu: &[u64],
-) -> DecisionAnswer {
+) -> Result<Decision, Refusal> {
     let x = operand(a.is_real, a.header, a.real);
     let y = operand(b.is_real, b.header, b.real);
     match call {

@@ -1,9 +1,10 @@
 // The calls on bits and words of a vector that is lent, by their numbers in `replay`.
+use refusal::Refusal;
 use abi::{BitResult, WordResult, bit_result, change_result, word_result};
 use agreement::{Field, answers, is_bit};
 use fourstate::bitcode::from_code;
 use fourstate::bitplanes::Word;
-use fourstate::vectors::{Header, Verdict};
+use fourstate::vectors::Header;
 use fourstate::{bitplanes, operators};
 use replay::unchecked::{are_left, plain};
 
@@ -35,7 +36,7 @@ pub(crate) fn reads(call: usize, line: &[u8], h: Header, value: &[u64], unknown:
 }
 
 // A call that does not say whether a bit changed, as if it said no.
-fn done(v: Verdict) -> BitResult {
+fn done(v: Result<(), Refusal>) -> BitResult {
     BitResult {
         refusal: abi::done(v),
         bit: 0,

@@ -1,8 +1,9 @@
 // The calls that make a vector, by their numbers in `replay`.
+use refusal::Refusal;
 use abi::header_result;
 use agreement::is_vector;
 use fourstate::operators::from_real_wrapped;
-use fourstate::vectors::{Header, VectorAnswer, from_u64, new, zero};
+use fourstate::vectors::{Header, from_u64, new, zero};
 use replay::unchecked::{are_left, plain};
 
 fn make(
@@ -11,7 +12,7 @@ fn make(
     width: u32,
     value: &mut [u64],
     unknown: &mut [u64],
-) -> VectorAnswer {
+) -> Result<Header, Refusal> {
     let f = plain(line, 4);
     match call {
         6 => new(width, value, unknown),

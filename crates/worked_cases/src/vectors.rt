@@ -1,8 +1,9 @@
 // The calls of operators whose result is a vector, by their numbers in `replay`.
+use refusal::Refusal;
 use abi::header_result;
 use agreement::is_vector;
 use fourstate::operators;
-use fourstate::vectors::{Header, VectorAnswer};
+use fourstate::vectors::Header;
 use replay::unchecked::{are_left, field, plain};
 
 // A vector of two operands, or of the first.
@@ -16,7 +17,7 @@ fn result(
     bu: &[u64],
     ov: &mut [u64],
     ou: &mut [u64],
-) -> VectorAnswer {
+) -> Result<Header, Refusal> {
     match call {
         21 => operators::bitwise_and(a, av, au, b, bv, bu, ov, ou),
         22 => operators::bitwise_or(a, av, au, b, bv, bu, ov, ou),

@@ -1,17 +1,17 @@
 -- `literal_write::write_literal`: the vector is accepted, its length is given, the text has that length.
+use Rattle.std.specs.Prelude.{Result}
+use Rattle.refusal.specs.declared.Refusal.{Refusal}
 use mathlib.Core.Path.{◌≡◌, sym, ap, ◌∙◌}
 use mathlib.Core.List.{List}
 use Prim.Native.Nat.{ℕ}
 use borrow.Author.Tests.{eq-eqb, ne_eqb}
-use Rattle.refusal.specs.Outcome.{outcome}
+use Rattle.refusal.specs.Outcome.{outcome, answer}
 use Rattle.refusal.specs.Outcome.Answer.{given}
 use Rattle.words.specs.Planes.{lent, Planes}
 use Rattle.value.specs.declared.Header.{Header}
 use Rattle.value.specs.Checks.{vector, check_vector}
 use Rattle.value.proofs.Checks.{verdict-told, vector-accepted}
-use Rattle.literal_write.specs.declared.LengthAnswer.{LengthAnswer}
 use Rattle.literal_write.specs.Write.{literal_text, literal_length, write_literal}
-use Rattle.literal_write.specs.Answers.{length_answer}
 use Rattle.literal_write.proofs.Lengths.{by_length, by-length, length-given}
 use borrow.Author.Rules.{rules}
 use Rattle.literal_write.proofs.write_literal.Statement.{statement}
@@ -31,11 +31,11 @@ module _ (l : tie.After-literal_length) where
   accepted : check_vector header planes ≡ given tt
   accepted = verdict-told l.check_vector.ensures l.in-Accepted.is
 
-  told : {a : LengthAnswer} → l.literal_length.result ≡ a → literal_length header ≡ length_answer a
-  told e = sym l.literal_length.ensures ∙ ap length_answer e
+  told : {a : Result ℕ Refusal} → l.literal_length.result ≡ a → literal_length header ≡ answer a
+  told e = sym l.literal_length.ensures ∙ ap answer e
 
-  answered : {a : LengthAnswer} → l.literal_length.result ≡ a
-      → write_literal header planes text ≡ by_length (literal_text (vector header planes)) text (length_answer a)
+  answered : {a : Result ℕ Refusal} → l.literal_length.result ≡ a
+      → write_literal header planes text ≡ by_length (literal_text (vector header planes)) text (answer a)
   answered e = by-length header planes text accepted ∙ ap (by_length (literal_text (vector header planes)) text) (told e)
 
 returns : tie.Need-returns-then-text-n

@@ -1,11 +1,11 @@
 -- `load::load_list`: the text is read, and its inputs are put into cells if it says a list.
+use Rattle.std.specs.Prelude.{Result, Ok, Err}
+use Rattle.refusal.specs.declared.Refusal.{Refusal}
 use mathlib.Core.Path.{◌≡◌, refl, sym, ap, ◌∙◌, subst}
 use mathlib.Core.List.{List}
 use Prim.Native.Nat.{ℕ}
-use Rattle.refusal.specs.declared.Verdict.{Verdict}
-use Rattle.refusal.specs.declared.Verdict.TheVariants.{Accepted, Refused}
 use Rattle.refusal.specs.Refusals.{refusal_number}
-use Rattle.refusal.specs.Outcome.{outcome, after, verdict}
+use Rattle.refusal.specs.Outcome.{outcome, after, answer}
 use Rattle.refusal.specs.Outcome.Answer.{given, refused}
 use Rattle.words.specs.Planes.{Planes, lent}
 use Rattle.cells.specs.declared.Fields.{Fields}
@@ -37,8 +37,8 @@ module _ (k : tie.After-read_list-a) where
   abbrev list : StepList
   list = list_in text k.read_list-a.result.list
 
-  told : (v : Verdict) → k.read_list-a.result.verdict ≡ v → after (verdict v) (given list) ≡ whole text
-  told v e = sym (ap (λ x. after (verdict x) (given list)) e) ∙ k.read_list-a.ensures
+  told : (v : Result Unit Refusal) → k.read_list-a.result.verdict ≡ v → after (answer v) (given list) ≡ whole text
+  told v e = sym (ap (λ x. after (answer x) (given list)) e) ∙ k.read_list-a.ensures
 
 -- no cells
 none : (a : Planes) (f : Fields) → f ≡ no_fields → (state (store_of 0 f) a ≡ state empty_store a) × Fitted f 0 0 a
@@ -56,16 +56,16 @@ load-inputs-requires c κs =
 returns : tie.Need-returns-in-Refused
 returns c =
     let n = none (arenas c.before.before.before) c.no_fields-none.result c.no_fields-none.ensures in
-    let e : refused (refusal_number c.in-Refused.r) ≡ whole (text c.before.before.before) = told c.before.before.before (Refused c.in-Refused.r) c.in-Refused.is in (
+    let e : refused (refusal_number c.in-Refused.r) ≡ whole (text c.before.before.before) = told c.before.before.before (Err c.in-Refused.r) c.in-Refused.is in (
       ap (outcome (refused (refusal_number c.in-Refused.r))) n.0 ∙ ap (load_list (state empty_store (arenas c.before.before.before))) e,
       (refl, n.1),
     )
 
 returns-2 : tie.Need-returns-in-Accepted
 returns-2 c =
-    let e : given (list c.before.before.before.before.before.before.before.before.before) ≡ whole (text c.before.before.before.before.before.before.before.before.before) = told c.before.before.before.before.before.before.before.before.before Accepted c.in-Accepted.is in (
+    let e : given (list c.before.before.before.before.before.before.before.before.before) ≡ whole (text c.before.before.before.before.before.before.before.before.before) = told c.before.before.before.before.before.before.before.before.before (Ok tt) c.in-Accepted.is in (
       c.load_inputs-inputs.ensures.0 ∙ ap (load_list (state empty_store (arenas c.before.before.before.before.before.before.before.before.before))) e,
-      (ap (after (verdict c.load_inputs-inputs.result.verdict)) (sym e), c.load_inputs-inputs.ensures.1),
+      (ap (after (answer c.load_inputs-inputs.result.verdict)) (sym e), c.load_inputs-inputs.ensures.1),
     )
 
 pub load_list_spec : {M : Type 1} → statement M

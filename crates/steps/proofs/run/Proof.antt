@@ -1,13 +1,13 @@
 -- `steps::run`: the text is loaded, and the steps are run behind the inputs if none is refused.
+use Rattle.std.specs.Prelude.{Result, Ok, Err}
+use Rattle.refusal.specs.declared.Refusal.{Refusal}
 use mathlib.Core.Path.{◌≡◌, refl, sym, ap, ap₂, ◌∙◌}
 use mathlib.Core.List.{List}
 use Prim.Native.Nat.{ℕ, ◌≤◌}
 use native.Mathlib.Omega.{arith}
 use lib.ListN.{length}
-use Rattle.refusal.specs.declared.Verdict.{Verdict}
-use Rattle.refusal.specs.declared.Verdict.TheVariants.{Accepted, Refused}
 use Rattle.refusal.specs.Refusals.{refusal_number}
-use Rattle.refusal.specs.Outcome.{outcome, after, verdict}
+use Rattle.refusal.specs.Outcome.{outcome, after, answer}
 use Rattle.refusal.specs.Outcome.Answer.{given}
 use Rattle.words.specs.Planes.{Planes, lent}
 use Rattle.lines.specs.Buffer.{Buffer, buffer, put}
@@ -54,8 +54,8 @@ module _ (k : tie.After-load_list-l) where
   abbrev left : State
   left = state (store_of loaded.inputs.count loaded.inputs.fields) arenas
 
-  told : (v : Verdict) → loaded.inputs.verdict ≡ v → outcome (verdict v) left ≡ load_list empty (whole text)
-  told v e = sym (ap (λ (x : Verdict). outcome (verdict x) left) e) ∙ k.load_list-l.ensures.0
+  told : (v : Result Unit Refusal) → loaded.inputs.verdict ≡ v → outcome (answer v) left ≡ load_list empty (whole text)
+  told v e = sym (ap (λ (x : Result Unit Refusal). outcome (answer x) left) e) ∙ k.load_list-l.ensures.0
 
 -- every input is accepted
 module _ (a : tie.In-Accepted) where
@@ -64,11 +64,11 @@ module _ (a : tie.In-Accepted) where
 
   listed : whole (text l) ≡ given (list_in (text l) (loaded l).list)
   listed =
-      let v = ap (λ (x : Verdict). after (verdict x) (whole (text l))) (sym a.in-Accepted.is) in
-      v ∙ l.load_list-l.ensures.1.0 ∙ ap (λ (x : Verdict). after (verdict x) (given (list_in (text l) (loaded l).list))) a.in-Accepted.is
+      let v = ap (λ (x : Result Unit Refusal). after (answer x) (whole (text l))) (sym a.in-Accepted.is) in
+      v ∙ l.load_list-l.ensures.1.0 ∙ ap (λ (x : Result Unit Refusal). after (answer x) (given (list_in (text l) (loaded l).list))) a.in-Accepted.is
 
   few : (loaded l).list.step_count ≤ 256
-  few = (listed-counts (text l) (record { verdict = Accepted; list = (loaded l).list }) (sym listed) refl).1
+  few = (listed-counts (text l) (record { answer = (Ok tt); list = (loaded l).list }) (sym listed) refl).1
 
 put-refused-requires : tie.Need-put_refused-requires
 put-refused-requires c κs =
@@ -82,7 +82,7 @@ returns : tie.Need-returns-in-Refused
 returns c =
     ap₂ (λ (z : Store) (o : Buffer). final (memory (state z (arenas c.before.before.before.before.before.before.before.before.before.before.before.before.before.before.before)) (scratch c.before.before.before.before.before.before.before.before.before.before.before.before.before.before.before)) o (RefusedAt (refusal_number c.in-Refused.r) 0)) c.store_of.ensures
     (c.put_refused.ensures ∙ ap (λ (i : ℕ). put (out c.before.before.before.before.before.before.before.before.before.before.before.before.before.before.before) (refused_text i 0)) c.number-n.ensures)
-    ∙ ap (λ (x : Ran). final_of x (out c.before.before.before.before.before.before.before.before.before.before.before.before.before.before.before)) (refused-load (empty c.before.before.before.before.before.before.before.before.before.before.before.before.before.before.before) (left c.before.before.before.before.before.before.before.before.before.before.before.before.before.before.before) (scratch c.before.before.before.before.before.before.before.before.before.before.before.before.before.before.before) (whole (text c.before.before.before.before.before.before.before.before.before.before.before.before.before.before.before)) (refusal_number c.in-Refused.r) (told c.before.before.before.before.before.before.before.before.before.before.before.before.before.before.before (Refused c.in-Refused.r) c.in-Refused.is))
+    ∙ ap (λ (x : Ran). final_of x (out c.before.before.before.before.before.before.before.before.before.before.before.before.before.before.before)) (refused-load (empty c.before.before.before.before.before.before.before.before.before.before.before.before.before.before.before) (left c.before.before.before.before.before.before.before.before.before.before.before.before.before.before.before) (scratch c.before.before.before.before.before.before.before.before.before.before.before.before.before.before.before) (whole (text c.before.before.before.before.before.before.before.before.before.before.before.before.before.before.before)) (refusal_number c.in-Refused.r) (told c.before.before.before.before.before.before.before.before.before.before.before.before.before.before.before (Err c.in-Refused.r) c.in-Refused.is))
 
 -- the steps are run
 abbrev ran : tie.After-store_of-in-Accepted → tie.After-run_steps-p
@@ -106,7 +106,7 @@ returns-2 c =
     ap (λ (z : Store). final (memory (state z (lent r.run_steps-p.new.av r.run_steps-p.new.au)) (lent r.run_steps-p.new.sv r.run_steps-p.new.su)) (buffer r.run_steps-p.new.out x.length) (ending_of x.ending)) c.store_of-in-Accepted.ensures
     ∙ r.run_steps-p.ensures
     ∙ ap (λ (y : Ran). final_of y (out k))
-    (accepted-load (empty k) (left k) (scratch k) (whole (text k)) (list_in (text k) (loaded k).list) (told k Accepted r.in-Accepted.is) (listed r.before.before.before.before.before.before.before))
+    (accepted-load (empty k) (left k) (scratch k) (whole (text k)) (list_in (text k) (loaded k).list) (told k (Ok tt) r.in-Accepted.is) (listed r.before.before.before.before.before.before.before))
 
 pub run_spec : {M : Type 1} → statement M
 run_spec =

@@ -1,11 +1,11 @@
 -- `truth::combine`: by the truths or refusals of both operands.
+use Rattle.refusal.specs.Outcome.{answer}
 use mathlib.Core.Path.{◌≡◌, refl, sym, ap, ap₂, ◌∙◌}
 use mathlib.Core.Bool.{Bool, cond}
 use Rattle.bit.specs.declared.LogicBit.{LogicBit}
 use Rattle.bit.specs.Rules.{and_bit, or_bit}
 use Rattle.refusal.specs.Outcome.Answer.{given}
 use Rattle.words.specs.Planes.{lent}
-use Rattle.truth.specs.Truth.{truth_answer}
 use Rattle.truth.specs.Logic.{combined}
 use Rattle.truth.proofs.Truths.{by-truths}
 use borrow.Author.Rules.{rules}
@@ -23,7 +23,7 @@ both c =
     let a = c.args in
     ap given (ap₂ (rule a.by_and) c.truth_bit-left.ensures c.truth_bit-right.ensures)
     ∙ by-truths (rule a.by_and) a.a (lent a.av.now a.au.now) a.b (lent a.bv.now a.bu.now) _ _
-    (ap truth_answer (sym c.in-Truth.is) ∙ c.is_nonzero.ensures) (ap truth_answer (sym c.in-Truth-is_nonzero.is) ∙ c.is_nonzero-in-Truth.ensures)
+    (ap answer (sym c.in-Truth.is) ∙ c.is_nonzero.ensures) (ap answer (sym c.in-Truth-is_nonzero.is) ∙ c.is_nonzero-in-Truth.ensures)
 
 is-nonzero-requires : tie.Need-is_nonzero-requires
 is-nonzero-requires c κs = search rules
@@ -64,13 +64,13 @@ returns-2 : tie.Need-returns-in-Refused
 returns-2 c =
     let a = c.args in
     by-truths (rule a.by_and) a.a (lent a.av.now a.au.now) a.b (lent a.bv.now a.bu.now) _ _
-    (ap truth_answer (sym c.in-Refused.is) ∙ c.is_nonzero.ensures) refl
+    (ap answer (sym c.in-Refused.is) ∙ c.is_nonzero.ensures) refl
 
 returns-3 : tie.Need-returns-in-Refused-is_nonzero
 returns-3 c =
     let a = c.args in
     by-truths (rule a.by_and) a.a (lent a.av.now a.au.now) a.b (lent a.bv.now a.bu.now) _ _
-    (ap truth_answer (sym c.in-Truth.is) ∙ c.is_nonzero.ensures) (ap truth_answer (sym c.in-Refused-is_nonzero.is) ∙ c.is_nonzero-in-Truth.ensures)
+    (ap answer (sym c.in-Truth.is) ∙ c.is_nonzero.ensures) (ap answer (sym c.in-Refused-is_nonzero.is) ∙ c.is_nonzero-in-Truth.ensures)
 
 returns-4 : tie.Need-returns-else-by_and
 returns-4 c =

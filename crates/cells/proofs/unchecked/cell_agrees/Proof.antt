@@ -1,4 +1,6 @@
 -- `cells::unchecked::cell_agrees`: the span's begin and end decide, and at last the check of the cell's vector.
+use Rattle.std.specs.Prelude.{Result}
+use Rattle.refusal.specs.declared.Refusal.{Refusal}
 use mathlib.Core.Path.{◌≡◌, refl, sym, ap, ap₂, ◌∙◌}
 use mathlib.Core.Bool.{Bool, true, false, not, ◌||◌}
 use mathlib.Core.List.{List}
@@ -6,8 +8,7 @@ use Prim.Native.Nat.{ℕ, ◌+◌, ◌-◌, ◌≤◌, ◌<◌}
 use native.Mathlib.Omega.{arith}
 use lib.Dec.{eqb, ltb}
 use lib.ListN.{length}
-use Rattle.refusal.specs.declared.Verdict.{Verdict}
-use Rattle.refusal.specs.Outcome.{verdict}
+use Rattle.refusal.specs.Outcome.{answer}
 use Rattle.words.specs.Planes.{Planes, lent}
 use Rattle.value.specs.Checks.{check_vector}
 use Rattle.cells.specs.declared.Cell.{Cell}
@@ -45,15 +46,15 @@ spanned : (e : tie.Else-c-at) → let c = (start e.before).args.c in
 spanned e =
     inside (arenas e.before) (start e.before).args.at e.word_count.result (start e.before).args.c e.word_count.ensures (start e.before).requires.0 _ _ refl refl e.if-c-at.false
 
--- by the check's verdict, where the span begins and ends as it should
-by-verdict : (k : tie.After-check_vector) (r : Verdict) → k.check_vector.result ≡ r → accepts (verdict r) ≡ cell_agrees (arenas k.before.before.before.before) (start k.before.before.before.before).args.at (start k.before.before.before.before).args.c
+-- by the check's answer, where the span begins and ends as it should
+by-verdict : (k : tie.After-check_vector) (r : Result Unit Refusal) → k.check_vector.result ≡ r → accepts (answer r) ≡ cell_agrees (arenas k.before.before.before.before) (start k.before.before.before.before).args.at (start k.before.before.before.before).args.c
 unfolding cell_agrees
 by-verdict k r e =
     let c = (start k.before.before.before.before).args.c in
     let s = spanned k.before.before.before in
-    let f : check_vector c.header (cell_planes (arenas k.before.before.before.before) c) ≡ verdict r =
+    let f : check_vector c.header (cell_planes (arenas k.before.before.before.before) c) ≡ answer r =
     ap₂ (λ (v u : List ℕ). check_vector c.header (lent v u)) (sym k.cell_words-v.ensures) (sym k.cell_words-u.ensures)
-    ∙ sym k.check_vector.ensures ∙ ap verdict e in
+    ∙ sym k.check_vector.ensures ∙ ap answer e in
     simp (eq-eqb _ _ s.0, le-leb _ _ s.1, f)
 
 cell-words-requires : tie.Need-cell_words-v-requires

@@ -1,11 +1,13 @@
 -- `load::unchecked::load_inputs`: what is left to do is the inputs from the i-th on; the cells of those before agree with the arenas.
+use Rattle.std.specs.Prelude.{Result, Ok, Err}
+use Rattle.refusal.specs.declared.Refusal.{Refusal}
 use mathlib.Core.Path.{◌≡◌, refl, sym, ap, ◌∙◌, subst}
 use mathlib.Core.List.{List}
 use Prim.Native.Nat.{ℕ, ◌+◌, ◌-◌, ◌≤◌, ◌<◌}
 use native.Mathlib.Omega.{arith}
 use lib.ListN.{length, get_or}
 use Rattle.refusal.specs.Refusals.{refusal_number}
-use Rattle.refusal.specs.Outcome.{outcome}
+use Rattle.refusal.specs.Outcome.{outcome, answer}
 use Rattle.refusal.specs.Outcome.Answer.{given, refused}
 use Rattle.words.specs.Planes.{word_count, Planes, lent, planes_of}
 use Rattle.words.specs.Vector.{tabulate}
@@ -15,9 +17,6 @@ use Rattle.value.specs.declared.Header.{Header}
 use Rattle.value.specs.Checks.{Vector}
 use Rattle.cells.specs.declared.Cell.{Cell}
 use Rattle.cells.specs.declared.Fields.{Fields}
-use Rattle.cells.specs.declared.PlaceAnswer.{PlaceAnswer}
-use Rattle.cells.specs.declared.PlaceAnswer.TheVariants.{At, Refused}
-use Rattle.cells.specs.Cells.{place_answer}
 use Rattle.cells.specs.Places.{cell_of, places_of}
 use Rattle.cells.proofs.Agreed.{next-within}
 use Rattle.cells.proofs.Places.{put_fields}
@@ -129,9 +128,9 @@ module _ (a : tie.After-load_input invariant-loop decreases-loop) where
       let x = get_or st.args.list.inputs i no_input in
       bits-length st.args.text.now x.place x.header.width ∙ omega (arith, (st.requires.inputs i inside).0)
 
-  told : (y : PlaceAnswer) → a.load_input.result ≡ y → outcome (place_answer y) left ≡ take_input i (next_word s.store) v.header (planes_of v.bits) s.arenas
+  told : (y : Result ℕ Refusal) → a.load_input.result ≡ y → outcome (answer y) left ≡ take_input i (next_word s.store) v.header (planes_of v.bits) s.arenas
   told y e =
-      sym (ap (λ (x : PlaceAnswer). outcome (place_answer x) left) e) ∙ a.load_input.ensures
+      sym (ap (λ (x : Result ℕ Refusal). outcome (answer x) left) e) ∙ a.load_input.ensures
       ∙ ap (λ (n : ℕ). take_input i n v.header (planes_of v.bits) s.arenas) laid.words
 
 -- where it is refused
@@ -143,7 +142,7 @@ module _ (r : tie.In-Refused invariant-loop decreases-loop) where
   number = refusal_number r.in-Refused.r
 
   not_taken : outcome (refused number) (left at-refused) ≡ take_input (i at-refused) (next_word (s at-refused).store) (v at-refused).header (planes_of (v at-refused).bits) (s at-refused).arenas
-  not_taken = told at-refused (Refused r.in-Refused.r) r.in-Refused.is
+  not_taken = told at-refused (Err r.in-Refused.r) r.in-Refused.is
 
 -- where it has a cell
 module _ (r : tie.In-At invariant-loop decreases-loop) where
@@ -157,7 +156,7 @@ module _ (r : tie.In-At invariant-loop decreases-loop) where
   h = (v b).header
 
   taken : outcome (given at) (left b) ≡ take_input (i b) (next_word (s b).store) h (planes_of (v b).bits) (s b).arenas
-  taken = told b (At at) r.in-At.is
+  taken = told b (Ok at) r.in-At.is
 
   is : InputTaken (s b) h (planes_of (v b).bits) (places b) (laid b).agreed at (left b)
   is = input-taken (s b) h (planes_of (v b).bits) (places b) (laid b).agreed at (left b) taken

@@ -1,4 +1,6 @@
 -- `steps::unchecked::run_steps`: what is left to do is the steps from the k-th on; the cells before agree with the arenas.
+use Rattle.std.specs.Prelude.{Result, Ok, Err}
+use Rattle.refusal.specs.declared.Refusal.{Refusal}
 use mathlib.Core.Path.{◌≡◌, sym, ap, ◌∙◌, refl}
 use mathlib.Core.List.{List}
 use Prim.Native.Nat.{ℕ, ◌+◌, ◌-◌, ◌≤◌, ◌<◌}
@@ -17,8 +19,6 @@ use Rattle.cells.specs.declared.Cell.{Cell}
 use Rattle.cells.specs.declared.Fields.{Fields}
 use Rattle.cells.specs.Places.{cell_of, no_cell}
 use Rattle.cells.proofs.Places.{put_fields}
-use Rattle.store.specs.declared.StepAnswer.{StepAnswer}
-use Rattle.store.specs.declared.StepAnswer.TheVariants.{Added, Refused}
 use Rattle.store.specs.declared.Store.{Store}
 use Rattle.store.specs.Store.{state, store_of, with_cell}
 use Rattle.store.specs.Step.{Memory, memory, step_result, add_step}
@@ -124,8 +124,8 @@ module _ (a : tie.After-take_step Inv-loop μ-loop) where
   pub scratch-unknown-kept : length scratch.unknown ≡ length start.args.su.now
   scratch-unknown-kept = a.take_step.auto.su ∙ turn.loop-k.invariant.scratch-unknown-long
 
-  pub told : (x : StepAnswer) → a.take_step.result ≡ x → outcome (taken_answer filled x) (left (taken_store x (store_of filled fields))) ≡ add_step found this
-  told x e = sym (ap (λ (y : StepAnswer). outcome (taken_answer filled y) (left (taken_store y (store_of filled fields)))) e) ∙ a.take_step.ensures
+  pub told : (x : Result Cell Refusal) → a.take_step.result ≡ x → outcome (taken_answer filled x) (left (taken_store x (store_of filled fields))) ≡ add_step found this
+  told x e = sym (ap (λ (y : Result Cell Refusal). outcome (taken_answer filled y) (left (taken_store y (store_of filled fields)))) e) ∙ a.take_step.ensures
 
   pub inside : place < count start
   inside = a.loop-k-test.true
@@ -154,7 +154,7 @@ module _ (r : tie.In-Added Inv-loop μ-loop) where
   more = left taken (with_cell cell (store_of (filled taken) (fields taken)))
 
   pub added : outcome (given (filled taken)) more ≡ add_step (found taken) (this taken)
-  added = told taken (Added cell) r.in-Added.is
+  added = told taken (Ok cell) r.in-Added.is
 
   pub places : length (store_of (filled taken) (fields taken)).cells ≡ 320
   places = length-tabulate 320 (cell_of (fields taken))
@@ -280,7 +280,7 @@ returns-2 c =
     let s = start a in
     let o = buffer (turn a).loop-k.out (turn a).loop-k.at in
     sym (walk-last (count s) (step (list s)) (entered s) s.args.out.now (found a) (turn a).loop-k.out (turn a).loop-k.at (place a) (turn a).loop-k.invariant.walked (inside a)
-    (refused (refusal_number c.in-Refused.r)) (left a (store_of (filled a) (fields a))) c.put_refused-in-Refused.new.out c.put_refused-in-Refused.result (told a (Refused c.in-Refused.r) c.in-Refused.is) (refusal_number c.in-Refused.r) refl
+    (refused (refusal_number c.in-Refused.r)) (left a (store_of (filled a) (fields a))) c.put_refused-in-Refused.new.out c.put_refused-in-Refused.result (told a (Err c.in-Refused.r) c.in-Refused.is) (refusal_number c.in-Refused.r) refl
     (c.put_refused-in-Refused.ensures ∙ ap (λ x. put o (refused_text x (place a + 1))) c.number-in-Refused.ensures))
 
 cast-put-step : tie.Need-overflow_cast-n Inv-loop μ-loop

@@ -1,16 +1,15 @@
 -- `store::Store::add_input`: 14, then what is taken.
+use Rattle.std.specs.Prelude.{Result, Ok, Err}
+use Rattle.refusal.specs.declared.Refusal.{Refusal}
 use mathlib.Core.Path.{◌≡◌, sym, ap, ◌∙◌}
 use mathlib.Core.Bool.{true}
 use Prim.Native.Nat.{ℕ}
 use native.Mathlib.Omega.{arith}
 use lib.ListN.{length}
 use Rattle.refusal.specs.Refusals.{refusal_number}
-use Rattle.refusal.specs.Outcome.{outcome}
+use Rattle.refusal.specs.Outcome.{outcome, answer}
 use Rattle.refusal.specs.Outcome.Answer.{given}
 use Rattle.words.specs.Planes.{Planes, lent}
-use Rattle.cells.specs.declared.PlaceAnswer.{PlaceAnswer}
-use Rattle.cells.specs.declared.PlaceAnswer.TheVariants.{At, Refused}
-use Rattle.cells.specs.Cells.{place_answer}
 use Rattle.cells.proofs.Agreed.{next-within}
 use Rattle.store.specs.declared.Store.{Store}
 use Rattle.store.specs.Store.{State, state, next_word, agrees}
@@ -39,7 +38,7 @@ module _ (t : tie.In-At) where
   k = t.before
 
   found : (agrees (all k) ≡ true) × (next_word (st k).args.self ≡ t.in-At.next)
-  found = told-accepted (all k) t.in-At.next (sym k.check_cells.ensures ∙ ap place_answer t.in-At.is)
+  found = told-accepted (all k) t.in-At.next (sym k.check_cells.ensures ∙ ap answer t.in-At.is)
 
 -- what was taken
 module _ (i : tie.After-take_input) where
@@ -49,15 +48,15 @@ module _ (i : tie.After-take_input) where
   abbrev left : Planes
   left = lent i.take_input.new.av i.take_input.new.au
 
-  told : (x : PlaceAnswer) → i.take_input.result ≡ x
-      → let s = all (k t) in outcome (place_answer x) left ≡ take_input s.store.count (next_word s.store) (st (k t)).args.h (input (k t)) s.arenas
+  told : (x : Result ℕ Refusal) → i.take_input.result ≡ x
+      → let s = all (k t) in outcome (answer x) left ≡ take_input s.store.count (next_word s.store) (st (k t)).args.h (input (k t)) s.arenas
   told x e =
       let s = all (k t) in
-      sym (ap (λ (y : PlaceAnswer). outcome (place_answer y) left) e) ∙ i.take_input.ensures
+      sym (ap (λ (y : Result ℕ Refusal). outcome (answer y) left) e) ∙ i.take_input.ensures
       ∙ ap (λ (n : ℕ). take_input s.store.count n (st (k t)).args.h (input (k t)) s.arenas) (sym (found t).1)
 
-  taken : (n : ℕ) → i.take_input.result ≡ At n → InputTaken (all (k t)) (st (k t)).args.h (input (k t)) (places (k t)) (found t).0 n left
-  taken n e = input-taken (all (k t)) (st (k t)).args.h (input (k t)) (places (k t)) (found t).0 n left (told (At n) e)
+  taken : (n : ℕ) → i.take_input.result ≡ Ok n → InputTaken (all (k t)) (st (k t)).args.h (input (k t)) (places (k t)) (found t).0 n left
+  taken n e = input-taken (all (k t)) (st (k t)).args.h (input (k t)) (places (k t)) (found t).0 n left (told (Ok n) e)
 
 take-input-requires : tie.Need-take_input-requires
 take-input-requires c κs =
@@ -72,13 +71,13 @@ with-cell-requires c κs =
 returns : tie.Need-returns-in-Refused
 returns c =
     let r = refusal_number c.in-Refused.r in
-    let e = told-refused (all c.before) r (sym c.check_cells.ensures ∙ ap place_answer c.in-Refused.is) in
+    let e = told-refused (all c.before) r (sym c.check_cells.ensures ∙ ap answer c.in-Refused.is) in
     (store-refused (all c.before) r e).0 (st c.before).args.h (input c.before)
 
 returns-2 : tie.Need-returns-in-Refused-take_input
 returns-2 c =
     let b = k (t c.before.before.before.before.before) in
-    (input-refused (all b) (st b).args.h (input b) (places b) (found (t c.before.before.before.before.before)).0 (refusal_number c.in-Refused-take_input.r) (left c.before.before.before.before.before) (told c.before.before.before.before.before (Refused c.in-Refused-take_input.r) c.in-Refused-take_input.is)).1
+    (input-refused (all b) (st b).args.h (input b) (places b) (found (t c.before.before.before.before.before)).0 (refusal_number c.in-Refused-take_input.r) (left c.before.before.before.before.before) (told c.before.before.before.before.before (Err c.in-Refused-take_input.r) c.in-Refused-take_input.is)).1
 
 returns-3 : tie.Need-returns-in-At-take_input
 returns-3 c =

@@ -1,15 +1,14 @@
 -- `store::Store::add_step`: 14, then what is taken on the store's four arrays.
+use Rattle.std.specs.Prelude.{Result, Ok, Err}
+use Rattle.refusal.specs.declared.Refusal.{Refusal}
 use mathlib.Core.Path.{◌≡◌, sym, ap, ap₂, ◌∙◌, subst}
 use mathlib.Core.Bool.{true}
 use lib.ListN.{length}
 use Rattle.refusal.specs.Refusals.{refusal_number}
-use Rattle.refusal.specs.Outcome.{outcome}
+use Rattle.refusal.specs.Outcome.{outcome, answer}
 use Rattle.refusal.specs.Outcome.Answer.{given}
 use Rattle.words.specs.Planes.{Planes, lent}
-use Rattle.cells.specs.Cells.{place_answer}
 use Rattle.store.specs.declared.Store.{Store}
-use Rattle.store.specs.declared.StepAnswer.{StepAnswer}
-use Rattle.store.specs.declared.StepAnswer.TheVariants.{Added, Refused}
 use Rattle.store.specs.Store.{State, state, store_of, next_word, agrees}
 use Rattle.store.specs.Step.{Memory, memory, add_step}
 use Rattle.store.specs.Taken.{taken_answer, taken_store}
@@ -37,7 +36,7 @@ module _ (t : tie.In-At) where
   k = t.before
 
   found : (agrees (all k) ≡ true) × (next_word (st k).args.self ≡ t.in-At.next)
-  found = told-accepted (all k) t.in-At.next (sym k.check_cells.ensures ∙ ap place_answer t.in-At.is)
+  found = told-accepted (all k) t.in-At.next (sym k.check_cells.ensures ∙ ap answer t.in-At.is)
 
 -- the four arrays are those of the store
 module _ (f : tie.After-fields_of-f) where
@@ -61,11 +60,11 @@ module _ (i : tie.After-take_step) where
   left s =
       memory (state s (lent i.take_step.new.av i.take_step.new.au)) (lent i.take_step.new.sv i.take_step.new.su)
 
-  told : (x : StepAnswer) → i.take_step.result ≡ x
+  told : (x : Result Cell Refusal) → i.take_step.result ≡ x
       → outcome (taken_answer (st (b f)).args.self.count x) (left (taken_store x (st (b f)).args.self)) ≡ add_step before (st (b f)).args.step
   told x e =
       let s = (st (b f)).args.self in
-      ap₂ (λ (y : StepAnswer) (z : Store). outcome (taken_answer s.count y) (left (taken_store y z))) (sym e) (same f)
+      ap₂ (λ (y : Result Cell Refusal) (z : Store). outcome (taken_answer s.count y) (left (taken_store y z))) (sym e) (same f)
       ∙ i.take_step.ensures
       ∙ ap (λ (z : Store). add_step (memory (state z (all (b f)).arenas) (scratch (b f))) (st (b f)).args.step) (sym (same f))
 
@@ -82,23 +81,23 @@ take-step-requires c κs =
 
 with-cell-requires : tie.Need-with_cell-requires
 with-cell-requires c κs =
-    step-few (before c.before.before.before.before.before.before.before.before.before) _ (st (b (f c.before.before.before.before.before.before.before.before.before))).args.step _ (places (b (f c.before.before.before.before.before.before.before.before.before))) (told c.before.before.before.before.before.before.before.before.before (Added c.in-Added.c) c.in-Added.is)
+    step-few (before c.before.before.before.before.before.before.before.before.before) _ (st (b (f c.before.before.before.before.before.before.before.before.before))).args.step _ (places (b (f c.before.before.before.before.before.before.before.before.before))) (told c.before.before.before.before.before.before.before.before.before (Ok c.in-Added.c) c.in-Added.is)
 
 returns : tie.Need-returns-in-Refused
 returns c =
     let r = refusal_number c.in-Refused.r in
-    let e = told-refused (all c.before) r (sym c.check_cells.ensures ∙ ap place_answer c.in-Refused.is) in
+    let e = told-refused (all c.before) r (sym c.check_cells.ensures ∙ ap answer c.in-Refused.is) in
     (store-refused (all c.before) r e).1 (scratch c.before) (st c.before).args.step
 
 returns-2 : tie.Need-returns-in-Refused-take_step
 returns-2 c =
-    told (refused-at c) (Refused c.in-Refused-take_step.r) c.in-Refused-take_step.is
+    told (refused-at c) (Err c.in-Refused-take_step.r) c.in-Refused-take_step.is
 
 returns-3 : tie.Need-returns-in-Added
 returns-3 c =
     let i = added-at c in
     ap (λ (s : Store). outcome (given (st (b (f i))).args.self.count) (left i s)) c.with_cell.ensures
-    ∙ told i (Added c.in-Added.c) c.in-Added.is
+    ∙ told i (Ok c.in-Added.c) c.in-Added.is
 
 pub add_step_spec : {M : Type 1} → statement M
 add_step_spec =

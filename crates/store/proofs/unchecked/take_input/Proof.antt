@@ -6,14 +6,14 @@ use native.Mathlib.Omega.{arith}
 use lib.ListN.{length, take}
 use lib.Seq.{take_all}
 use Rattle.refusal.specs.Refusals.{refusal_number}
-use Rattle.refusal.specs.Outcome.{Answer, Outcome, outcome, after, or_refuse}
+use Rattle.refusal.specs.Outcome.{Answer, Outcome, outcome, after, or_refuse, answer}
 use Rattle.refusal.specs.Outcome.Answer.{given}
 use Rattle.words.specs.Planes.{word_count, Planes, lent, planes_of, vector_of}
 use Rattle.bits.proofs.Splice.{planes-again}
 use Rattle.value.specs.Checks.{check_vector}
 use Rattle.value.proofs.Checks.{Sound, vector-accepted}
 use Rattle.machine.specs.Machine.{check_count, check_room, check_input_behind}
-use Rattle.cells.specs.Cells.{place_answer, put_planes}
+use Rattle.cells.specs.Cells.{put_planes}
 use Rattle.cells.proofs.Answered.{after-given, answer-given, answer-refused, room-left}
 use Rattle.store.specs.Store.{room_of, no_scratch}
 use borrow.Author.Rules.{rules}
@@ -38,7 +38,7 @@ module _ (k : tie.After-plan_input) where
   abbrev by : Answer Unit → Outcome ℕ Planes
   by x = or_refuse x arenas (outcome (given st.args.next) (put_planes st.args.next (planes_of (vector_of st.args.h.width input)) arenas))
 
-  told : place_answer k.plan_input.result ≡ after check (given st.args.next)
+  told : answer k.plan_input.result ≡ after check (given st.args.next)
   told =
       let g = st.args in
       k.plan_input.ensures
@@ -50,7 +50,7 @@ module _ (t : tie.In-At) where
   p = t.before
 
   found : (check p ≡ given tt) × ((st p).args.next ≡ t.in-At.at)
-  found = answer-given (check p) (st p).args.next t.in-At.at (sym (told p) ∙ ap place_answer t.in-At.is)
+  found = answer-given (check p) (st p).args.next t.in-At.at (sym (told p) ∙ ap answer t.in-At.is)
 
   accepted : (check_vector (st p).args.h (input p) ≡ given tt) × (word_count (st p).args.h.width ≤ length (arenas p).value - (st p).args.next)
   accepted =
@@ -77,7 +77,7 @@ copy-behind-requires c κs =
 
 returns : tie.Need-returns-in-Refused
 returns c =
-    sym (ap (by c.before) (answer-refused (check c.before) (st c.before).args.next (refusal_number c.in-Refused.r) (sym (told c.before) ∙ ap place_answer c.in-Refused.is)))
+    sym (ap (by c.before) (answer-refused (check c.before) (st c.before).args.next (refusal_number c.in-Refused.r) (sym (told c.before) ∙ ap answer c.in-Refused.is)))
 
 returns-2 : tie.Need-returns-in-At
 returns-2 c =

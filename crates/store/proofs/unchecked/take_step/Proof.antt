@@ -5,7 +5,7 @@ use Prim.Native.Nat.{ℕ, ◌≤◌}
 use native.Mathlib.Omega.{arith}
 use lib.ListN.{length}
 use Rattle.refusal.specs.Refusals.{refusal_number}
-use Rattle.refusal.specs.Outcome.{Answer, outcome, after}
+use Rattle.refusal.specs.Outcome.{Answer, outcome, after, answer}
 use Rattle.refusal.specs.Outcome.Answer.{given}
 use Rattle.words.specs.Vector.{tabulate}
 use Rattle.words.specs.Planes.{lent}
@@ -17,7 +17,7 @@ use Rattle.cells.proofs.Answered.{answer-given, answer-refused}
 use Rattle.cells.proofs.Agreed.{next-within}
 use Rattle.cells.proofs.Places.{headers-places}
 use Rattle.plan.specs.declared.PlannedStep.{PlannedStep}
-use Rattle.plan.specs.Planned.{planned, plan_answer}
+use Rattle.plan.specs.Planned.{planned}
 use Rattle.execute.specs.Executed.{LentMemory}
 use Rattle.store.specs.Store.{state, store_of, store_headers, room_of, with_cell}
 use Rattle.store.specs.Step.{memory}
@@ -60,7 +60,7 @@ module _ (k : tie.After-plan_step) where
   room : record { arena = length (m s).arenas.value; scratch = k.least.result } ≡ room_of (m s).arenas (m s).scratch
   room = λ i. record { arena = length (m s).arenas.value; scratch = k.least.ensures i }
 
-  told : plan_answer k.plan_step.result ≡ after (check s) (given (planned (hs s) s.args.step))
+  told : answer k.plan_step.result ≡ after (check s) (given (planned (hs s) s.args.step))
   told =
       k.plan_step.ensures
       ∙ (λ i. after (check_step (room i) (same s i) s.args.step) (given (planned (same s i) s.args.step)))
@@ -76,7 +76,7 @@ module _ (t : tie.In-Planned) where
   found : (check from ≡ given tt) × (planned (hs from) from.args.step ≡ p)
   found =
       answer-given (check from) (planned (hs from) from.args.step) p
-      (sym (told t.before) ∙ ap plan_answer t.in-Planned.is)
+      (sym (told t.before) ∙ ap answer t.in-Planned.is)
 
 plan-step-requires : tie.Need-plan_step-requires
 plan-step-requires c κs =
@@ -97,7 +97,7 @@ returns c =
     let st = s c.before in
     let r = refusal_number c.in-Refused.r in
     step-refused (n st) (table st) (m st) st.args.step st.requires.agreed r
-    (answer-refused (check st) (planned (hs st) st.args.step) r (sym (told c.before) ∙ ap plan_answer c.in-Refused.is))
+    (answer-refused (check st) (planned (hs st) st.args.step) r (sym (told c.before) ∙ ap answer c.in-Refused.is))
 
 returns-2 : tie.Need-returns-in-Planned
 returns-2 c =
