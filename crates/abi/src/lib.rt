@@ -58,7 +58,7 @@ pub fn done(v: Result<(), Refusal>) -> u8
 {
     match v {
         Ok(()) => 0,
-        Err(r) => refusal::number(r),
+        Err(r) => u8::from(r),
     }
 }
 
@@ -69,10 +69,10 @@ pub fn bit_result(a: Result<LogicBit, Refusal>) -> BitResult
     match a {
         Ok(b) => BitResult {
             refusal: 0,
-            bit: bit::to_code(b),
+            bit: u8::from(b),
         },
         Err(r) => BitResult {
-            refusal: refusal::number(r),
+            refusal: u8::from(r),
             bit: 0,
         },
     }
@@ -89,7 +89,7 @@ pub fn word_result(a: Result<Word, Refusal>) -> WordResult
             unknown: w.unknown,
         },
         Err(r) => WordResult {
-            refusal: refusal::number(r),
+            refusal: u8::from(r),
             value: 0,
             unknown: 0,
         },
@@ -108,7 +108,7 @@ pub fn header_result(a: Result<Header, Refusal>) -> HeaderResult
             is_fill: h.is_fill,
         },
         Err(r) => HeaderResult {
-            refusal: refusal::number(r),
+            refusal: u8::from(r),
             width: 0,
             is_signed: false,
             is_fill: false,
@@ -126,7 +126,7 @@ pub fn change_result(a: Result<bool, Refusal>) -> BitResult
             bit: c as u8,
         },
         Err(r) => BitResult {
-            refusal: refusal::number(r),
+            refusal: u8::from(r),
             bit: 0,
         },
     }
@@ -139,10 +139,10 @@ pub fn truth_result(a: Result<Truth, Refusal>) -> BitResult
     match a {
         Ok(t) => BitResult {
             refusal: 0,
-            bit: bit::to_code(reduce_words::truth_bit(t)),
+            bit: u8::from(reduce_words::truth_bit(t)),
         },
         Err(r) => BitResult {
-            refusal: refusal::number(r),
+            refusal: u8::from(r),
             bit: 0,
         },
     }
@@ -153,7 +153,7 @@ fn decided(d: Decision) -> DecisionResult
     ensures { result ≡ coded_decision (given d) }
 {
     let b = d.bit;
-    let bit = bit::to_code(b);
+    let bit = u8::from(b);
     let rule = d.rule;
     match rule {
         Rule::KnownMismatch(i) => DecisionResult {
@@ -190,7 +190,7 @@ pub fn decision_result(a: Result<Decision, Refusal>) -> DecisionResult
     match a {
         Ok(d) => decided(d),
         Err(r) => DecisionResult {
-            refusal: refusal::number(r),
+            refusal: u8::from(r),
             bit: 0,
             rule: 0,
             place: 0,
@@ -218,7 +218,7 @@ pub fn length_result(a: Result<usize, Refusal>) -> LengthResult
             length: n,
         },
         Err(r) => LengthResult {
-            refusal: refusal::number(r),
+            refusal: u8::from(r),
             length: 0,
         },
     }
@@ -230,7 +230,7 @@ pub fn text_done(a: Result<(), Refusal>) -> u8
 {
     match a {
         Ok(()) => 0,
-        Err(r) => refusal::number(r),
+        Err(r) => u8::from(r),
     }
 }
 

@@ -5,12 +5,12 @@ ghost use Rattle.std.specs.Prelude.{◌≡◌};
 ghost use Rattle.bit.specs.Rules.{code, of_code, entry, and_bit, or_bit, xor_bit, merge_bit, not_bit};
 
 // 0 and 1 are known; x and z are unknown.
-#[derive(Clone, Copy)]
+#[derive(Clone, Copy, PartialEq, Eq)]
 pub enum LogicBit {
-    Zero,
-    One,
-    X,
-    Z,
+    Zero = 0,
+    One = 1,
+    X = 2,
+    Z = 3,
 }
 
 // The rules over bit codes: row by left bit, column by right bit.
@@ -25,27 +25,26 @@ const MERGE: [[u8; 4]; 4] = [[0, 2, 2, 2], [2, 1, 2, 2], [2, 2, 2, 2], [2, 2, 2,
 const NOT: [u8; 4] = [1, 0, 2, 2];
 
 // The code of a bit: 0, 1, 2 for x, 3 for z.
-pub fn to_code(b: LogicBit) -> u8
-    ensures { result ≡ code b }
-{
-    match b {
-        LogicBit::Zero => 0,
-        LogicBit::One => 1,
-        LogicBit::X => 2,
-        LogicBit::Z => 3,
+impl From<LogicBit> for u8 {
+    ghost from_gives = { λ b n. n ≡ code b };
+
+    fn from(b: LogicBit) -> u8 {
+        b as u8
     }
 }
 
 // The bit of a code; a number above 3 is taken modulo 4.
-pub fn from_code(n: u8) -> LogicBit
-    ensures { result ≡ of_code n }
-{
-    let m = n % 4;
-    match m {
-        0 => LogicBit::Zero,
-        1 => LogicBit::One,
-        2 => LogicBit::X,
-        _ => LogicBit::Z,
+impl From<u8> for LogicBit {
+    ghost from_gives = { λ n b. b ≡ of_code n };
+
+    fn from(n: u8) -> LogicBit {
+        let m = n % 4;
+        match m {
+            0 => LogicBit::Zero,
+            1 => LogicBit::One,
+            2 => LogicBit::X,
+            _ => LogicBit::Z,
+        }
     }
 }
 
@@ -53,9 +52,9 @@ pub fn from_code(n: u8) -> LogicBit
 fn look(t: [[u8; 4]; 4], a: LogicBit, b: LogicBit) -> LogicBit
     ensures { result ≡ of_code (entry t a b) }
 {
-    let i = to_code(a) as usize;
-    let j = to_code(b) as usize;
-    from_code(t[i][j])
+    let i = u8::from(a) as usize;
+    let j = u8::from(b) as usize;
+    LogicBit::from(t[i][j])
 }
 
 // 0 if either is 0, 1 if both are 1, else x.
@@ -90,6 +89,6 @@ pub fn merge(a: LogicBit, b: LogicBit) -> LogicBit
 pub fn not(a: LogicBit) -> LogicBit
     ensures { result ≡ not_bit a }
 {
-    let i = to_code(a) as usize;
-    from_code(NOT[i])
+    let i = u8::from(a) as usize;
+    LogicBit::from(NOT[i])
 }

@@ -3,7 +3,7 @@
 #![tactic(auto)]
 
 pub use arm::chosen_arm;
-pub use bit::{LogicBit, and, from_code, merge, not, or, to_code, xor};
+pub use bit::{LogicBit, and, merge, not, or, xor};
 pub use bitwise::{bitwise_and, bitwise_not, bitwise_or, bitwise_xor, merge_unknown};
 pub use cells::Cell;
 pub use compare::{case_eq, casex_eq, casez_eq, is_equal, wildcard_eq};
@@ -17,7 +17,7 @@ pub use planes::{extract64, get, mask_top, set, splice64};
 pub use real::from_real_wrapped;
 pub use reduce::{reduce_and, reduce_or, reduce_xor};
 pub use reduce_words::Truth;
-pub use refusal::{Refusal, number};
+pub use refusal::Refusal;
 pub use steps::{RunAnswer, RunEnding, run};
 pub use store::{Store, Stored};
 pub use truth::{is_nonzero, logic_and, logic_or};

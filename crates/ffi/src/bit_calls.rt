@@ -31,7 +31,7 @@ pub extern "C" fn vowherunga_set(
     ensures { coded result (lent_by value.new unknown.new)
         ≡ coded_outcome coded_done (set_bit width (lent_by value.old unknown.old) i (of_code bit)) }
 {
-    done(planes::set(width, value, unknown, i, bit::from_code(bit)))
+    done(planes::set(width, value, unknown, i, LogicBit::from(bit)))
 }
 
 // `planes::splice64`

@@ -7,7 +7,7 @@ ghost use Rattle.arm.specs.Arm.{part_of};
 ghost use Rattle.ffi_arm.specs.Told.{truth_of_code, picks_second, told_arm};
 
 use arm::chosen_arm;
-use bit::{LogicBit, from_code};
+use bit::LogicBit;
 use reduce_words::Truth;
 
 #[repr(C)]
@@ -21,7 +21,7 @@ pub struct ArmResult {
 fn truth_of_code(code: u8) -> Truth
     ensures { result ≡ truth_of_code code }
 {
-    match from_code(code) {
+    match LogicBit::from(code) {
         LogicBit::Zero => Truth::False,
         LogicBit::One => Truth::True,
         LogicBit::X => Truth::Unknown,

@@ -35,7 +35,7 @@ fn not_word(width: u32, av: &[u64], au: &[u64], k: usize) -> Word
     while start < i {
         i -= 1;
         let b = get(width, av, au, i);
-        let c = bit::to_code(bit::not(b)) as u64;
+        let c = u8::from(bit::not(b)) as u64;
         value = value * 2 + c % 2;
         unknown = unknown * 2 + c / 2;
     }
@@ -89,7 +89,7 @@ fn truth_bits(width: u32, value: &[u64], unknown: &[u64]) -> Truth
     let mut seen = false;
     let mut i = 0;
     while i < w {
-        let c = bit::to_code(get(width, value, unknown, i));
+        let c = u8::from(get(width, value, unknown, i));
         if c == 1 {
             return Truth::True;
         }

@@ -19,7 +19,7 @@ fn end_number(e: RunEnding) -> u8
 {
     match e {
         RunEnding::Done(_) => 0,
-        RunEnding::Refused(r, _) => refusal::number(r),
+        RunEnding::Refused(r, _) => u8::from(r),
     }
 }
 

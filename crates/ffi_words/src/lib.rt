@@ -61,7 +61,7 @@ pub extern "C" fn vowherunga_not_word(width: u32, a: Word) -> Word
 pub extern "C" fn vowherunga_reduce_and_word(width: u32, a: Word) -> u8
     ensures { result ≡ code (reduce_and (vector_of (min 64 width) (single a))) }
 {
-    bit::to_code(narrow::reduce_and(width, a))
+    u8::from(narrow::reduce_and(width, a))
 }
 
 // `narrow::reduce_or`
@@ -69,7 +69,7 @@ pub extern "C" fn vowherunga_reduce_and_word(width: u32, a: Word) -> u8
 pub extern "C" fn vowherunga_reduce_or_word(a: Word) -> u8
     ensures { result ≡ code (reduce_or (vector_of 64 (single a))) }
 {
-    bit::to_code(narrow::reduce_or(a))
+    u8::from(narrow::reduce_or(a))
 }
 
 // `narrow::reduce_xor`
@@ -77,7 +77,7 @@ pub extern "C" fn vowherunga_reduce_or_word(a: Word) -> u8
 pub extern "C" fn vowherunga_reduce_xor_word(a: Word) -> u8
     ensures { result ≡ code (reduce_xor (vector_of 64 (single a))) }
 {
-    bit::to_code(narrow::reduce_xor(a))
+    u8::from(narrow::reduce_xor(a))
 }
 
 // `narrow::truth`: 0 false, 1 true, 2 unknown
@@ -85,7 +85,7 @@ pub extern "C" fn vowherunga_reduce_xor_word(a: Word) -> u8
 pub extern "C" fn vowherunga_truth_word(a: Word) -> u8
     ensures { result ≡ code (truth_bit (truth_of (vector_of 64 (single a)))) }
 {
-    bit::to_code(reduce_words::truth_bit(narrow::truth(a)))
+    u8::from(reduce_words::truth_bit(narrow::truth(a)))
 }
 
 // `narrow::compare` by `is_equal`
@@ -93,7 +93,7 @@ pub extern "C" fn vowherunga_truth_word(a: Word) -> u8
 pub extern "C" fn vowherunga_is_equal_word(a: Word, b: Word) -> u8
     ensures { result ≡ code (compared Equal (plain64 a) (plain64 b)) }
 {
-    bit::to_code(narrow::compare(Comparison::Equal, a, b))
+    u8::from(narrow::compare(Comparison::Equal, a, b))
 }
 
 // `narrow::compare` by `case_eq`
@@ -101,7 +101,7 @@ pub extern "C" fn vowherunga_is_equal_word(a: Word, b: Word) -> u8
 pub extern "C" fn vowherunga_case_eq_word(a: Word, b: Word) -> u8
     ensures { result ≡ code (compared CaseEqual (plain64 a) (plain64 b)) }
 {
-    bit::to_code(narrow::compare(Comparison::CaseEqual, a, b))
+    u8::from(narrow::compare(Comparison::CaseEqual, a, b))
 }
 
 // `narrow::compare` by `casez_eq`
@@ -109,7 +109,7 @@ pub extern "C" fn vowherunga_case_eq_word(a: Word, b: Word) -> u8
 pub extern "C" fn vowherunga_casez_eq_word(a: Word, b: Word) -> u8
     ensures { result ≡ code (compared CasezEqual (plain64 a) (plain64 b)) }
 {
-    bit::to_code(narrow::compare(Comparison::CasezEqual, a, b))
+    u8::from(narrow::compare(Comparison::CasezEqual, a, b))
 }
 
 // `narrow::compare` by `casex_eq`
@@ -117,7 +117,7 @@ pub extern "C" fn vowherunga_casez_eq_word(a: Word, b: Word) -> u8
 pub extern "C" fn vowherunga_casex_eq_word(a: Word, b: Word) -> u8
     ensures { result ≡ code (compared CasexEqual (plain64 a) (plain64 b)) }
 {
-    bit::to_code(narrow::compare(Comparison::CasexEqual, a, b))
+    u8::from(narrow::compare(Comparison::CasexEqual, a, b))
 }
 
 // `narrow::compare` by `wildcard_eq`
@@ -125,5 +125,5 @@ pub extern "C" fn vowherunga_casex_eq_word(a: Word, b: Word) -> u8
 pub extern "C" fn vowherunga_wildcard_eq_word(a: Word, b: Word) -> u8
     ensures { result ≡ code (compared WildcardEqual (plain64 a) (plain64 b)) }
 {
-    bit::to_code(narrow::compare(Comparison::WildcardEqual, a, b))
+    u8::from(narrow::compare(Comparison::WildcardEqual, a, b))
 }

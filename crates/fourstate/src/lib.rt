@@ -9,10 +9,6 @@
 pub mod bitcode {
     // 0, 1, x or z.
     pub use entries::LogicBit;
-    // The code of a bit: 0, 1, 2 for x, 3 for z.
-    pub use entries::to_code;
-    // The bit of a code modulo 4.
-    pub use entries::from_code;
     // 0 if either is 0, 1 if both are 1, else x.
     pub use entries::and;
     // 1 if either is 1, 0 if both are 0, else x.
@@ -53,8 +49,6 @@ pub mod vectors {
     pub use entries::MAX_WIDTH;
     // Why a call was not done.
     pub use entries::Refusal;
-    // The number of a refusal.
-    pub use entries::number;
     // Whether a call that answers nothing else was done.
     // A bit, or the refusal.
     // A word of both planes, or the refusal.

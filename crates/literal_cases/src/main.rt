@@ -59,7 +59,7 @@ fn is_refused(text: &[u8]) -> bool {
     let mut unknown = [9u64; 1];
     match read_literal(text, &mut value, &mut unknown) {
         Ok(_) => false,
-        Err(r) => number(r) == 15 && value[0] == 7 && unknown[0] == 9,
+        Err(r) => u8::from(r) == 15 && value[0] == 7 && unknown[0] == 9,
     }
 }
 

@@ -65,7 +65,7 @@ pub fn run(
     match verdict {
         Err(r) => {
             let f = inputs.fields;
-            let n = refusal::number(r) as u32;
+            let n = u8::from(r) as u32;
             RunAnswer {
                 store: store_of(inputs.count, &f.starts, &f.widths, &f.signs, &f.fills),
                 length: put_refused(out, 0, n, 0),

@@ -44,7 +44,7 @@ pub fn run_steps(
         return Pass {
             fields: f,
             count: n,
-            length: put_refused(out, 0, refusal::number(Refusal::BadStore) as u32, 1),
+            length: put_refused(out, 0, u8::from(Refusal::BadStore) as u32, 1),
             ending: RunEnding::Refused(Refusal::BadStore, 1),
         };
     }
@@ -60,7 +60,7 @@ pub fn run_steps(
                 return Pass {
                     fields: f,
                     count: n,
-                    length: put_refused(out, at, refusal::number(r) as u32, number),
+                    length: put_refused(out, at, u8::from(r) as u32, number),
                     ending: RunEnding::Refused(r, number),
                 };
             }

@@ -51,7 +51,7 @@ pub fn settle(
     let answer = r.answer;
     match answer {
         Err(x) => CellResult {
-            refusal: refusal::number(x),
+            refusal: u8::from(x),
             cell: 0,
         },
         Ok(n) => {

@@ -1,15 +1,5 @@
-// A vector's header, the operand of equality and truth, what an entry answers, and the checks of planes and operands.
-#![tactic(
-    auto,
-    using(crate::proofs::Checks::told, crate::proofs::Checks::lengths_accepted),
-    unfolding(
-        crate::specs::Checks::check_lengths,
-        crate::specs::Checks::check_planes,
-        crate::specs::Checks::check_vector,
-        crate::specs::Checks::check_operand,
-        crate::specs::Checks::check_output
-    )
-)]
+// A vector's header, the operand of equality and truth, and the checks of planes and operands.
+#![tactic(auto)]
 
 ghost use Rattle.std.specs.Prelude.{◌≡◌};
 ghost use Rattle.refusal.specs.Outcome.{answer};
@@ -22,7 +12,7 @@ use refusal::Refusal;
 pub const MAX_WIDTH: u32 = 1_048_576;
 
 #[repr(C)]
-#[derive(Clone, Copy)]
+#[derive(Clone, Copy, PartialEq, Eq)]
 pub struct Header {
     pub width: u32,
     pub is_signed: bool,
@@ -37,6 +27,7 @@ pub enum Operand {
 }
 
 // Whether the width and the planes' lengths are in order: 1, then 2.
+#[tactic(auto, unfolding(crate::specs::Checks::check_lengths))]
 pub fn check_lengths(width: u32, value: &[u64], unknown: &[u64]) -> Result<(), Refusal>
     ensures { answer result ≡ check_lengths width (lent_by value.now unknown.now) }
 {
@@ -54,6 +45,7 @@ pub fn check_lengths(width: u32, value: &[u64], unknown: &[u64]) -> Result<(), R
 }
 
 // Whether the planes may be those of a vector of that width: 1, then 2, then 3.
+#[tactic(auto, using(crate::proofs::Checks::lengths_accepted), unfolding(crate::specs::Checks::check_planes))]
 pub fn check_planes(width: u32, value: &[u64], unknown: &[u64]) -> Result<(), Refusal>
     ensures { answer result ≡ check_planes width (lent_by value.now unknown.now) }
 {
@@ -68,21 +60,26 @@ pub fn check_planes(width: u32, value: &[u64], unknown: &[u64]) -> Result<(), Re
 }
 
 // Whether a vector may be an operand: 1, 2, 3, then 4.
+#[tactic(auto, unfolding(crate::specs::Checks::check_vector))]
 pub fn check_vector(h: Header, value: &[u64], unknown: &[u64]) -> Result<(), Refusal>
     ensures { answer result ≡ check_vector h (lent_by value.now unknown.now) }
 {
-    let width = h.width;
-    check_planes(width, value, unknown)?;
-    if h.is_fill {
-        if width == 0 {
-            return Err(Refusal::EmptyFill);
-        }
+    check_planes(h.width, value, unknown)?;
+    if h.is_fill && h.width == 0 {
+        return Err(Refusal::EmptyFill);
     }
     Ok(())
 }
 
 // Whether two vectors may be operands: 1 to 4 for the left one, then for the right one.
-pub fn check_pair(a: Header, av: &[u64], au: &[u64], b: Header, bv: &[u64], bu: &[u64]) -> Result<(), Refusal>
+pub fn check_pair(
+    a: Header,
+    av: &[u64],
+    au: &[u64],
+    b: Header,
+    bv: &[u64],
+    bu: &[u64],
+) -> Result<(), Refusal>
     ensures { answer result
         ≡ check_pair a (lent_by av.now au.now) b (lent_by bv.now bu.now) }
 {
@@ -91,6 +88,7 @@ pub fn check_pair(a: Header, av: &[u64], au: &[u64], b: Header, bv: &[u64], bu: 
 }
 
 // Whether an operand is in order: a vector by 1 to 4, a real by 2 if a plane is not empty.
+#[tactic(auto, unfolding(crate::specs::Checks::check_operand))]
 pub fn check_operand(o: Operand, value: &[u64], unknown: &[u64]) -> Result<(), Refusal>
     ensures { answer result ≡ check_operand o (lent_by value.now unknown.now) }
 {
@@ -109,6 +107,7 @@ pub fn check_operand(o: Operand, value: &[u64], unknown: &[u64]) -> Result<(), R
 }
 
 // Whether output planes are exactly the words of a result of that width, or 5.
+#[tactic(auto, unfolding(crate::specs::Checks::check_output))]
 pub fn check_output(width: u32, value: &[u64], unknown: &[u64]) -> Result<(), Refusal>
     ensures { answer result ≡ check_output width (lent_by value.now unknown.now) }
 {

@@ -2,7 +2,7 @@
 use refusal::Refusal;
 use abi::{BitResult, WordResult, bit_result, change_result, word_result};
 use agreement::{Field, answers, is_bit};
-use fourstate::bitcode::from_code;
+use fourstate::bitcode::LogicBit;
 use fourstate::bitplanes::Word;
 use fourstate::vectors::Header;
 use fourstate::{bitplanes, operators};
@@ -57,7 +57,7 @@ fn write(
     match call {
         2 => {
             let code = (bits.value % 2 + bits.unknown % 2 * 2) as u8;
-            done(bitplanes::set(width, value, unknown, i, from_code(code)))
+            done(bitplanes::set(width, value, unknown, i, LogicBit::from(code)))
         }
         3 => done(bitplanes::splice64(width, value, unknown, i, bits, n)),
         4 => change_result(operators::splice_bits64(h, value, unknown, i, bits, n)),

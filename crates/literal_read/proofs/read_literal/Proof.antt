@@ -4,7 +4,7 @@ use native.Mathlib.Omega.{arith}
 use Rattle.refusal.specs.Outcome.{Answer, outcome, or_refuse}
 use Rattle.refusal.specs.Outcome.Answer.{given}
 use Rattle.words.specs.Planes.{lent, planes_of}
-use Rattle.value.proofs.Checks.{verdict-told, exactly-accepted}
+use Rattle.value.proofs.Checks.{told, exactly-accepted}
 use Rattle.value.specs.Checks.{check_output}
 use borrow.Author.Rules.{rules}
 use Rattle.literal_read.specs.Literal.{sized, written_in, read_literal}
@@ -40,17 +40,17 @@ fill-planes-requires c κs =
     let o = one c.before.before.before in
     let a = o.args in
     let some = o.if-width-eq0.false in
-    let l = exactly-accepted _ (lent a.ov.now a.ou.now) 5 (verdict-told c.check_output.ensures c.in-Accepted.is) in
+    let l = exactly-accepted _ (lent a.ov.now a.ou.now) 5 (told c.check_output.ensures c.in-Accepted.is) in
     (o.parts-l.ensures.1 (omega arith), (omega arith, l.0, l.1))
 
 returns-2 : tie.Need-returns-in-Refused
 returns-2 c =
-    ended c.before _ (verdict-told c.check_output.ensures c.in-Refused.is)
+    ended c.before _ (told c.check_output.ensures c.in-Refused.is)
 
 returns-3 : tie.Need-returns-in-Accepted
 returns-3 c =
     ap (outcome (given (sized (l c.before.before.before.before.before.before.before.before).width (l c.before.before.before.before.before.before.before.before).is_signed))) c.fill_planes.ensures
-    ∙ ended c.before.before.before.before.before.before.before.before _ (verdict-told c.check_output.ensures c.in-Accepted.is)
+    ∙ ended c.before.before.before.before.before.before.before.before _ (told c.check_output.ensures c.in-Accepted.is)
 
 pub read_literal_spec : {M : Type 1} → statement M
 read_literal_spec =

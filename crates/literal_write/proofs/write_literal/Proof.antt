@@ -10,7 +10,7 @@ use Rattle.refusal.specs.Outcome.Answer.{given}
 use Rattle.words.specs.Planes.{lent, Planes}
 use Rattle.value.specs.declared.Header.{Header}
 use Rattle.value.specs.Checks.{vector, check_vector}
-use Rattle.value.proofs.Checks.{verdict-told, vector-accepted}
+use Rattle.value.proofs.Checks.{told, vector-accepted}
 use Rattle.literal_write.specs.Write.{literal_text, literal_length, write_literal}
 use Rattle.literal_write.proofs.Lengths.{by_length, by-length, length-given}
 use borrow.Author.Rules.{rules}
@@ -29,7 +29,7 @@ module _ (l : tie.After-literal_length) where
   text = l.args.text.now
 
   accepted : check_vector header planes ≡ given tt
-  accepted = verdict-told l.check_vector.ensures l.in-Accepted.is
+  accepted = told l.check_vector.ensures l.in-Accepted.is
 
   told : {a : Result ℕ Refusal} → l.literal_length.result ≡ a → literal_length header ≡ answer a
   told e = sym l.literal_length.ensures ∙ ap answer e
@@ -51,7 +51,7 @@ put-literal-requires c κs =
 returns-2 : tie.Need-returns-in-Refused
 unfolding write_literal
 returns-2 c =
-    simp (verdict-told c.check_vector.ensures c.in-Refused.is)
+    simp (told c.check_vector.ensures c.in-Refused.is)
 
 returns-3 : tie.Need-returns-in-Refused-literal_length
 returns-3 c =

@@ -5,7 +5,7 @@ use Rattle.refusal.specs.Outcome.{Answer, outcome, or_refuse}
 use Rattle.refusal.specs.Outcome.Answer.{given}
 use Rattle.words.specs.Planes.{Planes, lent, planes_of}
 use Rattle.value.specs.Checks.{max_width, plain, check_output}
-use Rattle.value.proofs.Checks.{verdict-told, exactly-accepted}
+use Rattle.value.proofs.Checks.{told, exactly-accepted}
 use Rattle.value.specs.declared.Header.{Header}
 use Rattle.real.specs.Round.{real_vector, from_real}
 use Rattle.real.proofs.from_real_wrapped.Goals as goal
@@ -25,15 +25,15 @@ pub write_real-requires : goal.write_real-requires
 unfolding check_output
 write_real-requires c =
     let a = c.args in
-    exactly-accepted _ (lent a.value.now a.unknown.now) 5 (verdict-told c.check_output.ensures c.in-Accepted.is)
+    exactly-accepted _ (lent a.value.now a.unknown.now) 5 (told c.check_output.ensures c.in-Accepted.is)
 
 pub returns-in-Refused : goal.returns-in-Refused
 returns-in-Refused c =
     let a = c.args in
-    sym (by-check a.f a.width c.at_least_one-w.result (lent a.value.now a.unknown.now) c.if-width-gt-MAX_WIDTH.false c.at_least_one-w.ensures _ (verdict-told c.check_output.ensures c.in-Refused.is))
+    sym (by-check a.f a.width c.at_least_one-w.result (lent a.value.now a.unknown.now) c.if-width-gt-MAX_WIDTH.false c.at_least_one-w.ensures _ (told c.check_output.ensures c.in-Refused.is))
 
 pub returns-in-Accepted : goal.returns-in-Accepted
 returns-in-Accepted c =
     let a = c.args in
     ap₂ (λ (h : Header) (p : Planes). outcome (given h) p) c.plain_header.ensures c.write_real.ensures
-    ∙ sym (by-check a.f a.width c.at_least_one-w.result (lent a.value.now a.unknown.now) c.if-width-gt-MAX_WIDTH.false c.at_least_one-w.ensures _ (verdict-told c.check_output.ensures c.in-Accepted.is))
+    ∙ sym (by-check a.f a.width c.at_least_one-w.result (lent a.value.now a.unknown.now) c.if-width-gt-MAX_WIDTH.false c.at_least_one-w.ensures _ (told c.check_output.ensures c.in-Accepted.is))

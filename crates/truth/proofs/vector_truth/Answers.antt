@@ -1,17 +1,17 @@
 -- `truth::vector_truth`: refused as checked, else by the unchecked function.
 use Rattle.value.specs.Checks.{check_operand}
-use Rattle.value.proofs.Checks.{verdict-told, vector-accepted, sound-planes}
+use Rattle.value.proofs.Checks.{told, vector-accepted, sound-planes}
 use Rattle.truth.proofs.vector_truth.Goals as goal
 
 pub truth-requires : goal.truth-requires
-truth-requires c = let all = sound-planes (vector-accepted _ _ (verdict-told c.check_vector.ensures c.in-Accepted.is)) in record { plane = all.0; plane_2 = all.1 }
+truth-requires c = let all = sound-planes (vector-accepted _ _ (told c.check_vector.ensures c.in-Accepted.is)) in record { plane = all.0; plane_2 = all.1 }
 
 pub returns-in-Refused : goal.returns-in-Refused
 unfolding check_operand
 returns-in-Refused c =
-    simp (verdict-told c.check_vector.ensures c.in-Refused.is)
+    simp (told c.check_vector.ensures c.in-Refused.is)
 
 pub returns-in-Accepted : goal.returns-in-Accepted
 unfolding check_operand
 returns-in-Accepted c =
-    simp (verdict-told c.check_vector.ensures c.in-Accepted.is, c.truth.ensures.value_2)
+    simp (told c.check_vector.ensures c.in-Accepted.is, c.truth.ensures.value_2)
