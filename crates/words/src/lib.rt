@@ -8,7 +8,7 @@ pub mod unchecked;
 
 // A word of the value plane and the word of the unknown plane beside it.
 #[repr(C)]
-#[derive(Clone, Copy)]
+#[derive(Clone, Copy, PartialEq, Eq)]
 pub struct Word {
     pub value: u64,
     pub unknown: u64,

@@ -41,6 +41,7 @@ pub fn blend(old: u64, mask: u64, new: u64) -> u64
 }
 
 // Every place holds the bit b.
+#[tactic(auto, unfolding(crate::specs::Vector::pack))]
 pub fn filled(b: LogicBit) -> Word
     ensures { result ≡ packed (λ j. b) }
 {
@@ -114,14 +115,12 @@ pub fn extend_into(
         (tabulate width
         (λ i. get_or (from_planes from_width from_value.now from_unknown.now) i beyond)) }
 {
-    let mut k = 0;
-    while k < value.len() {
+    for k in 0..value.len() {
         let x = operand_word(from_value, from_unknown, from_width, k, beyond);
         let n = kept(width, k);
         let m = ones(n);
         value[k] = x.value & m;
         unknown[k] = x.unknown & m;
-        k += 1;
     }
 }
 
@@ -155,11 +154,7 @@ pub fn copy_front(plane: &mut [u64], from: &[u64], n: usize)
     requires { (n ≤ length from.now) × (n ≤ length plane.old) }
     ensures { plane.new ≡ take n from.now ++ drop n plane.old }
 {
-    let mut i = 0;
-    while i < n {
-        plane[i] = from[i];
-        i += 1;
-    }
+    plane[..n].copy_from_slice(&from[..n]);
 }
 
 // The word that starts at bit `pos` of a plane; 0 beyond its end.

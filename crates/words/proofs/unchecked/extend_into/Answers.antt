@@ -14,7 +14,7 @@ use Rattle.words.proofs.unchecked.extend_into.Invariants.{vector}
 use Rattle.words.proofs.unchecked.extend_into.Goals as goal
 
 pub loop-k-init : goal.loop-k-init
-loop-k-init c = (omega arith, start refl, start refl)
+loop-k-init c = (start refl, start refl)
 
 pub loop-k-preserved : goal.loop-k-preserved
 loop-k-preserved c =
@@ -22,10 +22,9 @@ loop-k-preserved c =
     let f : ℕ → LogicBit = λ i. get_or (from_planes a.from_width a.from_value.now a.from_unknown.now) i a.beyond in
     let m = c.ones-m.ensures ∙ ap (λ (n : ℕ). 2 ^ n - 1) c.kept-n.ensures in
     let x = c.operand_word-x.ensures in (
-      omega arith,
-      more c.loop-k.invariant.1 (omega arith)
+      more c.loop-k.invariant.0 (omega arith)
           (ap₂ bit_and (ap (λ (y : Word). y.value) x) m ∙ cut-vector value_digit value-digit-lt refl a.width c.loop-k.k _ f refl),
-      more c.loop-k.invariant.2 (omega (arith, c.requires.value_len.0, c.requires.value_len.1))
+      more c.loop-k.invariant.1 (omega (arith, c.requires.value_len.0, c.requires.value_len.1))
           (ap₂ bit_and (ap (λ (y : Word). y.unknown) x) m ∙ cut-vector unknown_digit unknown-digit-lt refl a.width c.loop-k.k _ f refl),
     )
 
@@ -34,5 +33,5 @@ returns c =
     let a = c.args in
     let R = vector a.width a.from_value.now a.from_unknown.now a.from_width a.beyond in
     let e = ap word_count (sym (length-tabulate a.width _)) in
-    ap₂ lent (plane-done value_digit R _ _ _ c.loop-k.invariant.1 (omega arith) (c.requires.value_len.0 ∙ e))
-    (plane-done unknown_digit R _ _ _ c.loop-k.invariant.2 (omega arith) (c.requires.value_len.1 ∙ e))
+    ap₂ lent (plane-done value_digit R _ _ _ c.loop-k.invariant.0 (omega arith) (c.requires.value_len.0 ∙ e))
+    (plane-done unknown_digit R _ _ _ c.loop-k.invariant.1 (omega arith) (c.requires.value_len.1 ∙ e))

@@ -13,9 +13,5 @@ vector w v u from b = tabulate w (λ i. get_or (from_planes from v u) i b)
 
 abbrev pub invariant-loop-k : goal.invariant-loop-k
 invariant-loop-k l =
-    (l.k ≤ length l.initial.value)
-    × FilledTo 0 (word_of value_digit (at (vector l.width l.from_value l.from_unknown l.from_width l.beyond))) (length l.initial.value) l.k l.value
+    FilledTo 0 (word_of value_digit (at (vector l.width l.from_value l.from_unknown l.from_width l.beyond))) (length l.initial.value) l.k l.value
     × FilledTo 0 (word_of unknown_digit (at (vector l.width l.from_value l.from_unknown l.from_width l.beyond))) (length l.initial.unknown) l.k l.unknown
-
-abbrev pub decreases-loop-k : goal.decreases-loop-k
-decreases-loop-k l = length l.initial.value - l.k
