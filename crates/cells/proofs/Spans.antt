@@ -22,7 +22,7 @@ use Rattle.refusal.specs.Outcome.{Answer}
 use Rattle.refusal.specs.Outcome.Answer.{given, refused}
 use Rattle.words.specs.Planes.{Planes}
 use Rattle.value.specs.Checks.{vector, check_vector}
-use Rattle.value.proofs.Checks.{Sound, vector-accepted}
+use Rattle.value.proofs.Checks.{Sound, vector_accepted}
 use Rattle.machine.specs.Machine as machine
 use Rattle.machine.specs.Machine.{holding, words_taken}
 use Rattle.cells.specs.declared.Cell.{Cell}
@@ -178,5 +178,5 @@ pub fits_read : (a : Planes) (k : ℕ) (c : Cell) → length a.value ≡ length 
 fits_read a k c e f = record {
   value-within = f.within;
   unknown-within = omega (arith, f.within, e);
-  sound = vector-accepted c.header (cell_planes a c) f.sound;
+  sound = vector_accepted c.header (cell_planes a c) f.sound;
 }

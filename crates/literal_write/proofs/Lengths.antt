@@ -17,7 +17,7 @@ use Rattle.bit.specs.declared.LogicBit.{LogicBit}
 use Rattle.words.specs.Planes.{Planes}
 use Rattle.value.specs.declared.Header.{Header}
 use Rattle.value.specs.Checks.{max_width, vector, check_planes, check_vector}
-use Rattle.value.proofs.Checks.{planes-accepted}
+use Rattle.value.proofs.Checks.{planes_accepted}
 use Rattle.text.specs.Write.{decimal, bit_digits}
 use Rattle.lines.proofs.Put.{length-bits, length-planes}
 use Rattle.literal_words.specs.Digits.{max_size}
@@ -61,7 +61,7 @@ header-checked h p e = go (check_planes h.width p) refl e
     go : (a : Answer Unit) → check_planes h.width p ≡ a
         → ◌≡◌ {A = Answer Unit} (after a (cond (h.is_fill && eqb h.width 0) (refused 4) (given tt))) (given tt) → check_header h ≡ given tt
     go (refused n) q e = let z : ◌≡◌ {A = ℕ} 0 1 = cc in absurd (omega arith)
-    go (given t) q e = rw (le-ltb _ _ (planes-accepted h.width p q).narrow) e
+    go (given t) q e = rw (le-ltb _ _ (planes_accepted h.width p q).narrow) e
 
 -- the text w, written into `out` if its length is the one that is answered
 abbrev pub by_length : List ℕ → List ℕ → Answer ℕ → Outcome Unit (List ℕ)

@@ -19,7 +19,7 @@ use Rattle.value.specs.declared.Header.{Header}
 use Rattle.value.specs.declared.Operand.{Operand}
 use Rattle.value.specs.declared.Operand.TheVariants as variants
 use Rattle.value.specs.Checks.{check_operand, vector}
-use Rattle.value.proofs.Checks.{vector-accepted}
+use Rattle.value.proofs.Checks.{vector_accepted}
 use Rattle.real_equal.specs.Numeric.{counted, low_number, twos_complement, stretched_fill, vector_integer, WholePlanes}
 
 counted-lt : (b : LogicBit) → counted b < 2
@@ -113,5 +113,5 @@ module _ {h : Header} {v u : List ℕ} (l : LowWords h v u) where
 
 pub accepted-whole : (o : Operand) (p : Planes) → check_operand o p ≡ given tt → WholePlanes o p
 unfolding check_operand
-accepted-whole (variants.Vector h) p e = let s = (vector-accepted h p e).planes in (s.value-plane, s.unknown-plane)
+accepted-whole (variants.Vector h) p e = let s = (vector_accepted h p e).planes in (s.value-plane, s.unknown-plane)
 accepted-whole (variants.Real x) p e = tt

@@ -14,7 +14,7 @@ use Rattle.words.specs.Planes.{word_count, value_plane, unknown_plane, Plane, Pl
 use Rattle.words.proofs.Planes.{value-plane, unknown-plane}
 use Rattle.value.specs.declared.Header.{Header}
 use Rattle.value.specs.Checks.{Vector, vector, check_vector}
-use Rattle.value.proofs.Checks.{Sound, vector-accepted}
+use Rattle.value.proofs.Checks.{Sound, vector_accepted}
 use Rattle.machine.specs.Machine as machine
 use Rattle.machine.specs.Machine.{check_input_behind, holding, headers_of, words_taken, check_count, check_room}
 use Rattle.cells.specs.Cells.{check_cells}
@@ -47,7 +47,7 @@ module _ (s : State) (h : Header) (p : Planes) (places : length s.store.cells â‰
       let within = next-within s.arenas s.store.cells s.store.count agreed in
       record {
         few = omega (arith, counted, count-few (length (store_headers s.store)) x.0);
-        sound = vector-accepted h p y.0;
+        sound = vector_accepted h p y.0;
         room = omega (arith, within, room-left (room_of s.arenas no_scratch) (next_word s.store) h.width y.1);
       }
 

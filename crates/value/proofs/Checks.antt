@@ -48,9 +48,9 @@ pub record Checked (w : ℕ) (p : Planes) : Type 0 where
   pub value-plane : Plane w p.value
   pub unknown-plane : Plane w p.unknown
 
-pub planes-accepted : (w : ℕ) (p : Planes) → check_planes w p ≡ given tt → Checked w p
+pub planes_accepted : (w : ℕ) (p : Planes) → check_planes w p ≡ given tt → Checked w p
 unfolding check_planes
-planes-accepted w p h = go (check_lengths w p) refl (clear_above w p.value) refl (clear_above w p.unknown) refl h
+planes_accepted w p h = go (check_lengths w p) refl (clear_above w p.value) refl (clear_above w p.unknown) refl h
   where
     go : (a : Answer Unit) → check_lengths w p ≡ a → (b : Bool) → clear_above w p.value ≡ b → (c : Bool) → clear_above w p.unknown ≡ c
         → ◌≡◌ {A = Answer Unit} (after a (cond (b && c) (given tt) (refused 3))) (given tt) → Checked w p
@@ -70,25 +70,25 @@ pub record Sound (h : Header) (p : Planes) : Type 0 where
   pub planes : Checked h.width p
   pub fill : h.is_fill ≡ true → h.width ≡ 0 → ⊥
 
-pub vector-accepted : (h : Header) (p : Planes) → check_vector h p ≡ given tt → Sound h p
+pub vector_accepted : (h : Header) (p : Planes) → check_vector h p ≡ given tt → Sound h p
 unfolding check_vector
-vector-accepted h p a = go (check_planes h.width p) refl h.is_fill refl (eqb h.width 0) refl a
+vector_accepted h p a = go (check_planes h.width p) refl h.is_fill refl (eqb h.width 0) refl a
   where
     go : (x : Answer Unit) → check_planes h.width p ≡ x → (f : Bool) → h.is_fill ≡ f → (z : Bool) → eqb h.width 0 ≡ z
         → ◌≡◌ {A = Answer Unit} (after x (cond (f && z) (refused 4) (given tt))) (given tt) → Sound h p
     go (refused n) _ f _ z _ a = let e : ◌≡◌ {A = ℕ} 0 1 = cc in absurd (omega arith)
     go (given t) ex true _ true _ a = let e : ◌≡◌ {A = ℕ} 0 1 = cc in absurd (omega arith)
-    go (given t) ex true _ false ez a = record { planes = planes-accepted h.width p ex; fill = λ _. eqb-false _ _ ez }
+    go (given t) ex true _ false ez a = record { planes = planes_accepted h.width p ex; fill = λ _. eqb-false _ _ ez }
     go (given t) ex false ef z _ a =
-        record { planes = planes-accepted h.width p ex; fill = λ e _. let y : true ≡ false = cc in let q : ◌≡◌ {A = ℕ} 0 1 = cc in omega arith }
+        record { planes = planes_accepted h.width p ex; fill = λ e _. let y : true ≡ false = cc in let q : ◌≡◌ {A = ℕ} 0 1 = cc in omega arith }
 
 pub sound-planes : {h : Header} {p : Planes} → Sound h p → Plane h.width p.value × Plane h.width p.unknown
 sound-planes s = (s.planes.value-plane, s.planes.unknown-plane)
 
 -- both operands of an accepted pair are in order
-pub pair-accepted : (a : Header) (p : Planes) (b : Header) (q : Planes) → check_pair a p b q ≡ given tt → Sound a p × Sound b q
-pair-accepted a p b q e = go (check_vector a p) refl e
+pub pair_accepted : (a : Header) (p : Planes) (b : Header) (q : Planes) → check_pair a p b q ≡ given tt → Sound a p × Sound b q
+pair_accepted a p b q e = go (check_vector a p) refl e
   where
     go : (x : Answer Unit) → check_vector a p ≡ x → after x (check_vector b q) ≡ given tt → Sound a p × Sound b q
     go (refused n) _ h = let z : ◌≡◌ {A = ℕ} 0 1 = cc in absurd (omega arith)
-    go (given t) ex h = (vector-accepted a p ex, vector-accepted b q h)
+    go (given t) ex h = (vector_accepted a p ex, vector_accepted b q h)

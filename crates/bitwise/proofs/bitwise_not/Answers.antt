@@ -3,7 +3,7 @@ use mathlib.Core.Path.{ap}
 use Rattle.refusal.specs.Outcome.{outcome}
 use Rattle.refusal.specs.Outcome.Answer.{given}
 use Rattle.words.specs.Planes.{Planes, lent}
-use Rattle.value.proofs.Checks.{told, exactly-accepted, vector-accepted}
+use Rattle.value.proofs.Checks.{told, exactly-accepted, vector_accepted}
 use Rattle.value.specs.Checks.{check_output}
 use Rattle.bitwise_words.specs.Joined.{not_header}
 use Rattle.bitwise.proofs.bitwise_not.Goals as goal
@@ -12,7 +12,7 @@ pub not_planes-requires : goal.not_planes-requires
 unfolding check_output
 not_planes-requires c =
     let a = c.args in
-    let p = vector-accepted a.a (lent a.av.now a.au.now) (told c.check_vector.ensures c.in-Accepted.is) in
+    let p = vector_accepted a.a (lent a.av.now a.au.now) (told c.check_vector.ensures c.in-Accepted.is) in
     let l = exactly-accepted _ (lent a.ov.now a.ou.now) 5 (told c.check_output.ensures c.in-Accepted-check_output.is) in
     record { plane = (p.planes.value-plane, p.planes.unknown-plane); ov_len = l }
 

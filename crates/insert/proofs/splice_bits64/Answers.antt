@@ -4,13 +4,13 @@ use Rattle.refusal.specs.Outcome.Answer.{given}
 use Rattle.words.specs.Planes.{Planes, lent}
 use mathlib.Core.Path.{ap₂}
 use Rattle.refusal.specs.Outcome.{outcome}
-use Rattle.value.proofs.Checks.{told, vector-accepted, sound-planes}
+use Rattle.value.proofs.Checks.{told, vector_accepted, sound-planes}
 use Rattle.insert.proofs.splice_bits64.Goals as goal
 
 pub splice_bits64-requires : goal.splice_bits64-requires
 splice_bits64-requires c =
     let a = c.args in
-    let all = sound-planes (vector-accepted a.a (lent a.value.now a.unknown.now) (told c.check_vector.ensures c.in-Accepted.is)) in record { plane = all.0; plane_2 = all.1 }
+    let all = sound-planes (vector_accepted a.a (lent a.value.now a.unknown.now) (told c.check_vector.ensures c.in-Accepted.is)) in record { plane = all.0; plane_2 = all.1 }
 
 pub returns-in-Refused : goal.returns-in-Refused
 returns-in-Refused c =

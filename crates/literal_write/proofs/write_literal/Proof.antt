@@ -10,7 +10,7 @@ use Rattle.refusal.specs.Outcome.Answer.{given}
 use Rattle.words.specs.Planes.{lent, Planes}
 use Rattle.value.specs.declared.Header.{Header}
 use Rattle.value.specs.Checks.{vector, check_vector}
-use Rattle.value.proofs.Checks.{told, vector-accepted}
+use Rattle.value.proofs.Checks.{told, vector_accepted}
 use Rattle.literal_write.specs.Write.{literal_text, literal_length, write_literal}
 use Rattle.literal_write.proofs.Lengths.{by_length, by-length, length-given}
 use borrow.Author.Rules.{rules}
@@ -45,7 +45,7 @@ returns c =
 put-literal-requires : tie.Need-put_literal-requires
 unfolding literal_text
 put-literal-requires c κs =
-    let k = (vector-accepted (header c.before.before.before) (planes c.before.before.before) (accepted c.before.before.before)).planes in
+    let k = (vector_accepted (header c.before.before.before) (planes c.before.before.before) (accepted c.before.before.before)).planes in
     ((k.value-plane.count, k.unknown-plane.count), c.if-text-n.false ∙ sym (length-given (header c.before.before.before) (planes c.before.before.before) _ (told c.before.before.before c.in-Length.is)))
 
 returns-2 : tie.Need-returns-in-Refused

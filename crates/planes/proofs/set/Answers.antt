@@ -5,12 +5,12 @@ use Rattle.bits.specs.Bits.{spliced}
 use Rattle.bits.proofs.Splice.{set-spliced}
 use mathlib.Core.Path.{sym, ap, ◌∙◌}
 use Rattle.refusal.specs.Outcome.{outcome}
-use Rattle.value.proofs.Checks.{told, planes-accepted}
+use Rattle.value.proofs.Checks.{told, planes_accepted}
 use Rattle.planes.proofs.set.Goals as goal
 
 pub splice64-requires : goal.splice64-requires
 splice64-requires c =
-    let h = planes-accepted _ _ (told c.check_planes.ensures c.in-Accepted.is) in
+    let h = planes_accepted _ _ (told c.check_planes.ensures c.in-Accepted.is) in
     record { plane = h.value-plane; plane_2 = h.unknown-plane }
 
 pub returns-in-Refused : goal.returns-in-Refused

@@ -11,7 +11,7 @@ use Rattle.refusal.specs.Outcome.Answer.{given}
 use Rattle.words.specs.Planes.{word_count, Planes, lent, planes_of, vector_of}
 use Rattle.bits.proofs.Splice.{planes-again}
 use Rattle.value.specs.Checks.{check_vector}
-use Rattle.value.proofs.Checks.{Sound, vector-accepted}
+use Rattle.value.proofs.Checks.{Sound, vector_accepted}
 use Rattle.machine.specs.Machine.{check_count, check_room, check_input_behind}
 use Rattle.cells.specs.Cells.{put_planes}
 use Rattle.cells.proofs.Answered.{after-given, answer-given, answer-refused, room-left}
@@ -61,7 +61,7 @@ module _ (t : tie.In-At) where
       (y.0, room-left r g.next g.h.width y.1)
 
   sound : Sound (st p).args.h (input p)
-  sound = vector-accepted (st p).args.h (input p) accepted.0
+  sound = vector_accepted (st p).args.h (input p) accepted.0
 
 copy-behind-requires : tie.Need-copy_behind-requires
 copy-behind-requires c κs =
