@@ -45,23 +45,25 @@ pub fn no_fields() -> Fields
 }
 
 // The word behind the first `count` of 320 cells, or 14 if the cells and their arenas disagree.
-pub fn check_cells(cells: [Cell; 320], count: usize, value: &[u64], unknown: &[u64]) -> Result<usize, Refusal>
+#[tactic(auto, unfolding(crate::specs::Cells::check_cells, crate::specs::Cells::agree))]
+pub fn check_cells(
+    cells: [Cell; 320],
+    count: usize,
+    value: &[u64],
+    unknown: &[u64],
+) -> Result<usize, Refusal>
     ensures { answer result
         ≡ after (check_cells (lent_by value.now unknown.now) cells count) (given (word_behind (take count cells))) }
 {
-    if (320 < count) | (value.len() != unknown.len()) {
+    if 320 < count || value.len() != unknown.len() {
         return Err(Refusal::BadStore);
     }
     let mut at = 0;
-    let mut i = 0;
-    while i < count {
-        let c = cells[i];
-        if !cell_agrees(c, at, value, unknown) {
+    for c in &cells[..count] {
+        if !cell_agrees(*c, at, value, unknown) {
             return Err(Refusal::BadStore);
         }
-        let h = c.header;
-        at += word_count(h.width);
-        i += 1;
+        at += word_count(c.header.width);
     }
     Ok(at)
 }

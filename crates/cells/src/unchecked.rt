@@ -55,21 +55,18 @@ pub fn cell_words(c: Cell, arena: &[u64]) -> &[u64]
 }
 
 // Whether a cell's span begins at word `at` and lies within the arenas, and the cell breaks none of 1, 3 and 4.
+#[tactic(auto, unfolding(crate::specs::Cells::cell_agrees))]
 pub fn cell_agrees(c: Cell, at: usize, value: &[u64], unknown: &[u64]) -> bool
     requires { (at ≤ length value.now) × (length value.now ≡ length unknown.now) }
     ensures { result ≡ cell_agrees (lent_by value.now unknown.now) at c }
 {
     let h = c.header;
     if (c.start != at) | (value.len() - at < word_count(h.width)) {
-        false
-    } else {
-        let v = cell_words(c, value);
-        let u = cell_words(c, unknown);
-        match check_vector(h, v, u) {
-            Err(_) => false,
-            Ok(()) => true,
-        }
+        return false;
     }
+    let v = cell_words(c, value);
+    let u = cell_words(c, unknown);
+    check_vector(h, v, u).is_ok()
 }
 
 // Copies the first n words of two planes into the arenas, from word `at` on: the end part of each arena is lent to the copying function.
