@@ -2,7 +2,7 @@
 --     one_of-exact   the reader of names of which no line begins with another's
 --     keyed-names   a key and one of several names is one of several lines
 --     tried-..      what is left to try, one law for each way through the code
-use mathlib.Core.Path.{◌≡◌, refl, sym, ap, ◌∙◌}
+use mathlib.Core.Path.{◌≡◌, refl, ap, ◌∙◌}
 use mathlib.Core.Bool.{Bool, true, false, ◌&&◌, cond}
 use mathlib.Core.List.{List, [], ◌∷◌, ◌++◌, append_assoc, map}
 use Prim.Native.Nat.{ℕ, zero, suc, ◌+◌, ◌-◌, ◌≤◌, ◌<◌}
@@ -10,76 +10,53 @@ use native.Mathlib.Nat.{sub-zero}
 use native.Mathlib.Numerals.{add-one}
 use native.Mathlib.Omega.{arith}
 use lib.Dec.{eqb}
-use lib.ListN.{length, drop, get_or, drop_of_length-le}
-use lib.Seq.{drop-cons}
+use lib.ListN.{length, take, drop, get_or, drop_of_length-le, length-drop}
+use lib.Seq.{drop-cons, take-suc, get_or-drop}
 use borrow.Author.Tests.{eq-eqb, ne_eqb, eqb-true, eqb-false}
 use Rattle.bit.proofs.Tests.{and-true}
-use Rattle.text.specs.Read.{Got, found, broken, only_if, or_try, next, line_end, key, named, one_of, lines_from, lines_in}
+use Rattle.text.specs.Read.{Got, found, broken, only_if, or_try, next, line_end, key, named, one_of, lines_from}
 use Rattle.text.specs.Exact.{Exact}
 use Rattle.text.proofs.Exact.{next-found, key-exact, key-append}
-use Rattle.text.proofs.Turns.{key-done, key-ends, key-same}
 
 -- ---- the lines tried one after the other
 
--- the lines that end before j are not the text's, from `at` on, and of the line begun there what is read stands in the text up to i
-pub record Tried (s lines : List ℕ) (at j n i : ℕ) : Type 0 where
-  pub begun : List ℕ
-  pub left : one_of (lines_in lines) 0 (drop at s) ≡ one_of (lines_from begun (drop j lines)) n (drop at s)
-  pub reached : (c : ℕ) (k : List ℕ) → key (begun ++ (c ∷ k)) (drop at s) ≡ key (c ∷ k) (drop i s)
+-- the lines that end before j are not the text's; the next one begins at `start`
+abbrev pub left : (lines t : List ℕ) (start j n : ℕ) → Got ℕ
+left lines t start j n = one_of (lines_from (take (j - start) (drop start lines)) (drop j lines)) n t
 
-pub tried-first : (s lines : List ℕ) (at : ℕ) → Tried s lines at 0 0 at
-tried-first s lines at = record { begun = []; left = refl; reached = λ c k. refl }
-
-module _ (s lines : List ℕ) (at j n i : ℕ) (t : Tried s lines at j n i) where
-  pub tried-all : length lines ≤ j → one_of (lines_in lines) 0 (drop at s) ≡ broken
+module _ (lines t : List ℕ) (start j n : ℕ) where
+  pub left-none : length lines ≤ j → left lines t start j n ≡ broken
   unfolding one_of
-  tried-all h = t.left ∙ rw (drop_of_length-le lines h)
+  left-none h = rw (drop_of_length-le lines h)
 
-  module _ (h : j < length lines) where
-    ends : get_or lines j 0 ≡ 10 → one_of (lines_in lines) 0 (drop at s)
-        ≡ or_try (next (key line_end (drop i s)) (λ x. found n)) (one_of (lines_from [] (drop (j + 1) lines)) (n + 1) (drop at s))
-    unfolding one_of named
-    ends e =
-        t.left
-        ∙ rw (drop-cons lines j 0 h, eq-eqb _ 10 e, t.reached 10 [], add-one j, add-one n)
+  module _ (l : start ≤ j) (h : j < length lines) where
+    line-to : take (j + 1 - start) (drop start lines) ≡ take (j - start) (drop start lines) ++ (get_or lines j 0 ∷ [])
+    line-to =
+        let m : j + 1 - start ≡ suc (j - start) = omega arith in
+        let d : j - start < length (drop start lines) = omega (arith, length-drop start lines) in
+        let k : start + (j - start) ≡ j = omega arith in
+        rw (m, take-suc (drop start lines) (j - start) 0 d, get_or-drop start lines (j - start) 0, k)
 
-    goes-on : (get_or lines j 0 ≡ 10 → ⊥) → one_of (lines_in lines) 0 (drop at s) ≡ one_of (lines_from (t.begun ++ (get_or lines j 0 ∷ [])) (drop (j + 1) lines)) n (drop at s)
-    goes-on e = t.left ∙ rw (drop-cons lines j 0 h, ne_eqb _ 10 e, add-one j)
+    -- a byte of the line
+    pub left-on : (get_or lines j 0 ≡ 10 → ⊥) → left lines t start j n ≡ left lines t start (j + 1) n
+    left-on e = rw (line-to, drop-cons lines j 0 h, ne_eqb _ 10 e, add-one j)
 
-    -- the byte stands in the text
-    module _ (m : i < length s) (q : get_or s i 0 ≡ get_or lines j 0) where
-      pub tried-found : get_or lines j 0 ≡ 10 → one_of (lines_in lines) 0 (drop at s) ≡ found n (drop (i + 1) s)
-      tried-found e = ends e ∙ rw (key-same s line_end i 0 (omega arith) m (q ∙ e), key-done s line_end (i + 1) 1 _ (omega arith))
+    -- the line ends, and stands in the text or not
+    module _ (e : get_or lines j 0 ≡ 10) where
+      abbrev line : List ℕ
+      line = take (j + 1 - start) (drop start lines)
 
-      pub tried_same : (get_or lines j 0 ≡ 10 → ⊥) → Tried s lines at (j + 1) n (i + 1)
-      tried_same e = record {
-        begun = t.begun ++ (get_or lines j 0 ∷ []);
-        left = goes-on e;
-        reached = λ c k.
-            ap (λ (l : List ℕ). key l (drop at s)) (append_assoc t.begun (get_or lines j 0 ∷ []) (c ∷ k))
-            ∙ t.reached (get_or lines j 0) (c ∷ k)
-            ∙ key-same s (get_or lines j 0 ∷ (c ∷ k)) i 0 (omega arith) m q;
-      }
+      ends : left lines t start j n ≡ or_try (next (key line t) (λ x. found n)) (left lines t (j + 1) (j + 1) (n + 1))
+      unfolding one_of named
+      ends =
+          let z : j + 1 - (j + 1) ≡ 0 = omega arith in
+          rw (line-to, e, drop-cons lines j 0 h, eq-eqb _ 10 e, z, add-one j, add-one n)
 
-    -- it does not
-    module _ (off : (k : List ℕ) → key (get_or lines j 0 ∷ k) (drop i s) ≡ broken) where
-      pub tried-next : get_or lines j 0 ≡ 10 → Tried s lines at (j + 1) (n + 1) at
-      tried-next e = record {
-        begun = [];
-        left = ends e ∙ rw (rw e at (off []));
-        reached = λ c k. refl;
-      }
+      pub left-found : (u : List ℕ) → key line t ≡ found tt u → left lines t start j n ≡ found n u
+      left-found u k = ends ∙ rw k
 
-      pub tried_other : (o : ℕ) → length s ≤ o → (get_or lines j 0 ≡ 10 → ⊥) → Tried s lines at (j + 1) n o
-      tried_other o z e = record {
-        begun = t.begun ++ (get_or lines j 0 ∷ []);
-        left = goes-on e;
-        reached = λ c k.
-            ap (λ (l : List ℕ). key l (drop at s)) (append_assoc t.begun (get_or lines j 0 ∷ []) (c ∷ k))
-            ∙ t.reached (get_or lines j 0) (c ∷ k)
-            ∙ off (c ∷ k)
-            ∙ sym (key-ends s (c ∷ k) o 0 (omega arith) z);
-      }
+      pub left-next : key line t ≡ broken → left lines t start j n ≡ left lines t (j + 1) (j + 1) (n + 1)
+      left-next k = ends ∙ rw k
 
 -- ---- behind a key
 

@@ -1,38 +1,51 @@
--- The readers at a place of a text, one law for each way through the code.
---     key-done, key-ends, key-same, key-other       the bytes of a key
---     rest-..       the digits of a number, of which some are read
+-- The readers at a place of a text.
+--     key-stands    the bytes of a key, all at once
+--     rest-..       the digits of a number, of which some are read, one law for each way through the code
 --     many-done, many-next, many-broken     several values, of which some are read
---     bits-ends, bits-other, bits-bit       the bits of a vector, of which some are read
+--     many-short, many-bits     the bits of a vector, all at once
 use mathlib.Core.Path.{◌≡◌, refl, sym, ap, ◌∙◌}
-use mathlib.Core.Bool.{Bool, true, false, ◌&&◌, ◌||◌}
-use mathlib.Core.List.{List, [], ◌∷◌, ◌++◌, append-nil}
+use mathlib.Core.Bool.{Bool, true, false, ◌&&◌, ◌||◌, cond}
+use mathlib.Core.List.{List, [], ◌∷◌, ◌++◌, append-nil, map}
 use Prim.Native.Nat.{ℕ, zero, suc, ◌+◌, ◌-◌, ◌*◌, ◌≤◌, ◌<◌}
 use native.Mathlib.Numerals.{add-one}
 use native.Mathlib.Omega.{arith}
 use lib.Dec.{ltb, eqb}
-use lib.ListN.{length, drop, get_or, drop_of_length-le}
+use lib.ListN.{length, take, drop, get_or, drop_of_length-le}
+use lib.Pointwise.{pointwise}
 use lib.Seq.{drop-cons, append_snoc}
 use borrow.Author.Tests.{eq-eqb, ne_eqb, le-leb, lt-leb, eqb-true, eqb-false, ltb-true, ltb-false}
+use Rattle.std.specs.List.{list_all}
 use Rattle.bit.proofs.Tests.{and-true, or-false}
-use Rattle.bit.specs.declared.LogicBit.{LogicBit}
-use Rattle.text.specs.Read.{Got, found, broken, next, many, line_end, key, more, number, is_bit, of_byte, bit}
+use Rattle.text.specs.Read.{Got, found, broken, only_if, next, many, line_end, key, more, number, is_bit, of_byte, bit}
 
 -- ---- a key
 
+-- the bytes of a key, compared all at once
+pub key-stands : (k t : List ℕ) → key k t ≡ cond (pointwise eqb (take (length k) t) k) (found tt (drop (length k) t)) broken
+unfolding key
+key-stands [] t = refl
+key-stands (k ∷ ks) [] = refl
+key-stands (k ∷ ks) (c ∷ t) = go (eqb c k) (key-stands ks t)
+  where
+    go : (b : Bool) → key ks t ≡ cond (pointwise eqb (take (length ks) t) ks) (found tt (drop (length ks) t)) broken
+        → only_if b (key ks t) ≡ cond (b && pointwise eqb (take (length ks) t) ks) (found tt (drop (length ks) t)) broken
+    go true ih = ih
+    go false ih = refl
+
 module _ (s k : List ℕ) (i j : ℕ) where
-  pub key-done : (t : List ℕ) → length k ≤ j → key (drop j k) t ≡ found tt t
+  key-done : (t : List ℕ) → length k ≤ j → key (drop j k) t ≡ found tt t
   unfolding key
   key-done t h = rw drop_of_length-le
 
-  pub key-ends : j < length k → length s ≤ i → key (drop j k) (drop i s) ≡ broken
+  key-ends : j < length k → length s ≤ i → key (drop j k) (drop i s) ≡ broken
   unfolding key
   key-ends h e = rw (drop_of_length-le s e, drop-cons k j 0)
 
-  pub key-same : j < length k → i < length s → get_or s i 0 ≡ get_or k j 0 → key (drop j k) (drop i s) ≡ key (drop (j + 1) k) (drop (i + 1) s)
+  key-same : j < length k → i < length s → get_or s i 0 ≡ get_or k j 0 → key (drop j k) (drop i s) ≡ key (drop (j + 1) k) (drop (i + 1) s)
   unfolding key
   key-same h e q = rw (add-one j, add-one i, drop-cons k j 0, drop-cons s i 0, eq-eqb _ _ q)
 
-  pub key-other : j < length k → i < length s → (get_or s i 0 ≡ get_or k j 0 → ⊥) → key (drop j k) (drop i s) ≡ broken
+  key-other : j < length k → i < length s → (get_or s i 0 ≡ get_or k j 0 → ⊥) → key (drop j k) (drop i s) ≡ broken
   unfolding key
   key-other h e q = rw (drop-cons k j 0, drop-cons s i 0, ne_eqb _ _ q)
 
@@ -210,16 +223,26 @@ module _ {A : Type 0} (r : List ℕ → Got A) (before : List A) (t : List ℕ) 
   unfolding many
   many-broken n e = rw e
 
-module _ (s : List ℕ) (bs : List LogicBit) (i n : ℕ) where
-  pub bits-ends : length s ≤ i → behind bs (many bit (suc n) (drop i s)) ≡ broken
-  unfolding bit
-  bits-ends h = many-broken bit bs (drop i s) n (rw (drop_of_length-le s h))
+-- the bits of a vector, all at once
+pub many-short : (n : ℕ) (t : List ℕ) → length t < n → many bit n t ≡ broken
+unfolding many bit
+many-short zero t h = absurd (omega arith)
+many-short (suc n) [] h = refl
+many-short (suc n) (c ∷ t) h = go (is_bit c) (many-short n t (omega arith))
+  where
+    go : (b : Bool) → many bit n t ≡ broken → next (only_if b (found (of_byte c) t)) (λ a u. next (many bit n u) (λ l. found (a ∷ l))) ≡ broken
+    go true ih = rw ih
+    go false ih = refl
 
-  pub bits-other : i < length s → is_bit (get_or s i 0) ≡ false → behind bs (many bit (suc n) (drop i s)) ≡ broken
-  unfolding bit
-  bits-other h e = many-broken bit bs (drop i s) n (rw (drop-cons s i 0 h, e))
-
-  pub bits-bit : i < length s → is_bit (get_or s i 0) ≡ true
-      → behind bs (many bit (suc n) (drop i s)) ≡ behind (bs ++ (of_byte (get_or s i 0) ∷ [])) (many bit n (drop (i + 1) s))
-  unfolding bit
-  bits-bit h e = many-next bit bs (drop i s) n (of_byte (get_or s i 0)) (drop (i + 1) s) (rw (add-one, drop-cons s i 0 h, e))
+pub many-bits : (n : ℕ) (t : List ℕ) → n ≤ length t → many bit n t ≡ cond (list_all is_bit (take n t)) (found (map of_byte (take n t)) (drop n t)) broken
+unfolding many bit
+many-bits zero t h = refl
+many-bits (suc n) [] h = absurd (omega arith)
+many-bits (suc n) (c ∷ t) h = go (is_bit c) (list_all is_bit (take n t)) (many-bits n t (omega arith))
+  where
+    go : (b d : Bool) → many bit n t ≡ cond d (found (map of_byte (take n t)) (drop n t)) broken
+        → next (only_if b (found (of_byte c) t)) (λ a u. next (many bit n u) (λ l. found (a ∷ l)))
+        ≡ cond (b && d) (found (of_byte c ∷ map of_byte (take n t)) (drop n t)) broken
+    go true true ih = rw ih
+    go true false ih = rw ih
+    go false d ih = refl

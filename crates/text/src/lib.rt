@@ -1,10 +1,10 @@
 // Readers of the lines of a text: a key, and behind it a number or the bits of a vector; or one of several lines. A reader is handed the
-// text and a place in it, and gives what stands there with the place behind it. Where that is not as it should be, the place given is past
-// the end of every text, and nothing is found there: readers are called one after the other, and the last place tells.
+// text and a place in it, and gives what stands there with the place behind it, or nothing where that is not as it should be.
 #![tactic(auto)]
 
 ghost use Rattle.std.specs.Prelude.{◌≡◌, drop};
-ghost use Rattle.text.specs.Read.{key as key_of, number_line, bits_line};
+ghost use Rattle.std.specs.List.{list_all};
+ghost use Rattle.text.specs.Read.{key as key_of, number_line, is_bit, bits_line};
 ghost use Rattle.text.specs.Answers.{place_in, line_in};
 
 pub mod unchecked;
@@ -16,76 +16,58 @@ pub struct Line {
     pub next: usize,
 }
 
-// The place behind what is not there.
-const NOWHERE: usize = 9223372036854775808;
-
-// The answer for a line that is not as it should be.
-const BROKEN: Line = Line {
-    number: 0,
-    next: NOWHERE,
-};
-
-// Exactly the bytes of `key`.
-fn skip(s: &[u8], at: usize, key: &[u8]) -> usize
+// The place behind the bytes of `key`, where these stand.
+fn skip(s: &[u8], at: usize, key: &[u8]) -> Option<usize>
     ensures { result ≡ place_in s.now (key_of key.now (drop at s.now)) }
 {
-    let mut i = at;
-    let mut j = 0;
-    while j < key.len() {
-        if s.len() <= i {
-            return NOWHERE;
-        }
-        if s[i] != key[j] {
-            return NOWHERE;
-        }
-        i += 1;
-        j += 1;
-    }
-    if s.len() < i { s.len() } else { i }
+    let text = &s[at.min(s.len())..];
+    let rest = text.strip_prefix(key)?;
+    Some(s.len() - rest.len())
 }
 
 // A line of `key` and a decimal number of at most `limit`, no leading zeros.
-pub fn number_line(s: &[u8], at: usize, key: &[u8], limit: u32) -> Line
+pub fn number_line(s: &[u8], at: usize, key: &[u8], limit: u32) -> Option<Line>
     ensures { result
         ≡ line_in s.now (number_line key.now limit (drop at s.now)) }
 {
-    let from = skip(s, at, key);
-    let mut i = from;
+    let from = skip(s, at, key)?;
     let mut v = 0u64;
-    while i < s.len() {
+    for i in from..s.len() {
         let c = s[i];
-        if (c == 10) & (from < i) {
-            return Line {
+        if (c == b'\n') & (from < i) {
+            return Some(Line {
                 number: v as u32,
                 next: i + 1,
-            };
+            });
         }
-        if (c < 48) | (57 < c) | ((v == 0) & (from < i)) {
-            return BROKEN;
+        if (c < b'0') | (b'9' < c) | ((v == 0) & (from < i)) {
+            return None;
         }
-        v = v * 10 + (c - 48) as u64;
+        v = v * 10 + (c - b'0') as u64;
         if (limit as u64) < v {
-            return BROKEN;
+            return None;
         }
-        i += 1;
     }
-    BROKEN
+    None
+}
+
+// Whether each byte is one of 0 1 x z.
+#[tactic(auto, unfolding(crate::specs::Read::is_bit))]
+fn are_bits(s: &[u8]) -> bool
+    ensures { result ≡ list_all is_bit s.now }
+{
+    s.iter().all(|c| matches!(*c, b'0' | b'1' | b'x' | b'z'))
 }
 
 // A line of `key` and exactly n of 0 1 x z, the bits of a vector, highest first; they stay in the text, behind the key.
-pub fn bits_line(s: &[u8], at: usize, key: &[u8], n: u32) -> usize
+pub fn bits_line(s: &[u8], at: usize, key: &[u8], n: u32) -> Option<usize>
     ensures { result ≡ place_in s.now (bits_line key.now n (drop at s.now)) }
 {
-    let mut i = skip(s, at, key);
-    let mut left = n;
-    while (0 < left) & (i < s.len()) {
-        let c = s[i];
-        if (c == 48) | (c == 49) | (c == 120) | (c == 122) {
-            i += 1;
-            left -= 1;
-        } else {
-            return NOWHERE;
-        }
+    let from = skip(s, at, key)?;
+    let end = from + n as usize;
+    let bits = s.get(from..end)?;
+    if !are_bits(bits) {
+        return None;
     }
-    skip(s, i, b"\n")
+    skip(s, end, b"\n")
 }

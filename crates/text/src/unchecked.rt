@@ -6,37 +6,27 @@ ghost use Rattle.words.specs.Vector.{at};
 ghost use Rattle.words.specs.Planes.{word_count, packed, lent_by, planes_of};
 ghost use Rattle.text.specs.Answers.{line_in, bits_in};
 
-use crate::{BROKEN, Line};
+use crate::{Line, skip};
 use words::Word;
 
 // The number, from 0, of the line of `lines` that stands there; each of them ends with LF, and the first that fits is taken.
-pub fn one_of(s: &[u8], at: usize, lines: &[u8]) -> Line
+pub fn one_of(s: &[u8], at: usize, lines: &[u8]) -> Option<Line>
     requires { length lines.now < 4294967296 }
     ensures { result
         ≡ line_in s.now (one_of (lines_in lines.now) 0 (drop at s.now)) }
 {
-    let mut i = at;
-    let mut j = 0;
-    let mut n = 0;
-    while j < lines.len() {
-        let c = lines[j];
-        j += 1;
-        if i < s.len() {
-            if s[i] == c {
-                i += 1;
-                if c == 10 {
-                    return Line { number: n, next: i };
-                }
-            } else {
-                i = s.len();
+    let mut number = 0;
+    let mut start = 0;
+    for (j, c) in lines.iter().enumerate() {
+        if *c == b'\n' {
+            if let Some(next) = skip(s, at, &lines[start..=j]) {
+                return Some(Line { number, next });
             }
-        }
-        if c == 10 {
-            n += 1;
-            i = at;
+            number += 1;
+            start = j + 1;
         }
     }
-    BROKEN
+    None
 }
 
 // The word whose lowest bits are the n characters from a place on: 1 and z store a 1 in the value plane, x and z in the unknown plane.
@@ -46,12 +36,10 @@ pub fn read_word(s: &[u8], from: usize, n: usize) -> Word
 {
     let mut value: u64 = 0;
     let mut unknown: u64 = 0;
-    let mut j = 0;
-    while j < n {
-        let c = s[from + j];
-        value = value * 2 + ((c == 49) | (c == 122)) as u64;
-        unknown = unknown * 2 + ((c == 120) | (c == 122)) as u64;
-        j += 1;
+    for k in from..from + n {
+        let c = s[k];
+        value = value * 2 + ((c == b'1') | (c == b'z')) as u64;
+        unknown = unknown * 2 + ((c == b'x') | (c == b'z')) as u64;
     }
     Word { value, unknown }
 }
@@ -63,13 +51,11 @@ pub fn fill_planes(s: &[u8], place: usize, width: u32, value: &mut [u64], unknow
     ensures { lent_by value.new unknown.new ≡ planes_of (bits_in s.now place width) }
 {
     let mut left = width as usize;
-    let mut k = 0;
-    while k < value.len() {
-        let n = words::unchecked::least(64, left);
+    for k in 0..value.len() {
+        let n = left.min(64);
         left -= n;
         let x = read_word(s, place + left, n);
         value[k] = x.value;
         unknown[k] = x.unknown;
-        k += 1;
     }
 }

@@ -1,44 +1,39 @@
--- `text::skip`: what is left of the key, at the place reached, reads as the whole key does.
-use mathlib.Core.Path.{refl, ◌∙◌}
+-- `text::skip`: the bytes of the key are compared all at once with those from the place on.
+use mathlib.Core.Path.{◌≡◌, ap, ◌∙◌}
+use mathlib.Core.Bool.{true, false}
+use mathlib.Core.List.{List}
+use Prim.Native.Nat.{ℕ, ◌-◌, min}
 use native.Mathlib.Omega.{arith}
-use Rattle.text.proofs.Places.{begins, begins-end}
-use Rattle.text.proofs.Turns.{key-done, key-ends, key-same, key-other}
+use lib.Dec.{eqb}
+use lib.ListN.{length, take, drop}
+use lib.Pointwise.{pointwise}
+use Rattle.std.proofs.Common.{Some, None}
+use Rattle.std.proofs.lemmas.List.{drop_min, take_rest}
+use Rattle.text.specs.Read.{key as key_of}
+use Rattle.text.specs.Answers.{place_in}
+use Rattle.text.proofs.Turns.{key-stands}
 use Rattle.text.proofs.skip.Goals as goal
 
-pub loop-j-init : goal.loop-j-init
-loop-j-init c = (omega arith, refl)
+-- the text from the place on, or from the end
+module _ (s k : List ℕ) (at m : ℕ) (e : m ≡ min at (length s)) where
+  abbrev text : List ℕ
+  text = take (length s - m) (drop m s)
 
-pub returns-then-s-i : goal.returns-then-s-i
-returns-then-s-i c = rw (c.loop-j.invariant.1, key-ends _ _ _ _ c.loop-j-test.true c.if-s-i.true)
+  from-place : text ≡ drop at s
+  from-place = take_rest s m ∙ ap (λ (i : ℕ). drop i s) e ∙ drop_min at s
 
-pub bounds-s-i : goal.bounds-s-i
-bounds-s-i c = omega arith
+  missing : pointwise eqb (take (length k) text) k ≡ false → None ≡ place_in s (key_of k (drop at s))
+  missing h = rw (← from-place, key-stands k text, h)
 
-pub returns-then-s-i-2 : goal.returns-then-s-i-2
-returns-then-s-i-2 c =
+  stands : (rest : List ℕ) → pointwise eqb (take (length k) text) k ≡ true → rest ≡ drop (length k) text
+      → Some (length s - length rest) ≡ place_in s (key_of k (drop at s))
+  stands rest h q = rw (← from-place, key-stands k text, h, q)
+
+pub returns-in_err-rest : goal.returns-in_err-rest
+returns-in_err-rest c = let a = c.args in c.from_residual.ensures ∙ missing a.s.now a.key.now a.at c.min.result (omega arith) c.in_err-rest.ensures.cases
+
+pub returns : goal.returns
+returns c =
     let a = c.args in
-    rw (c.loop-j.invariant.1, key-other a.s.now a.key.now c.loop-j.i c.loop-j.j (omega arith) (omega arith) c.if-s-i-2.true)
-
-pub overflow_add-i : goal.overflow_add-i
-overflow_add-i c = omega arith
-
-pub overflow_add-j : goal.overflow_add-j
-overflow_add-j c = omega arith
-
-pub loop-j-smaller : goal.loop-j-smaller
-loop-j-smaller c = omega arith
-
-pub loop-j-preserved : goal.loop-j-preserved
-loop-j-preserved c =
-    let a = c.args in
-    (omega arith, c.loop-j.invariant.1 ∙ key-same a.s.now a.key.now c.loop-j.i c.loop-j.j (omega arith) (omega arith) c.if-s-i-2.false)
-
-pub returns-then-s-i-3 : goal.returns-then-s-i-3
-returns-then-s-i-3 c =
-    let s = c.args.s.now in
-    rw (c.loop-j.invariant.1, key-done s _ c.loop-j.i _ _ c.loop-j-test.false, begins-end s c.loop-j.i (omega arith))
-
-pub returns-else-s-i-3 : goal.returns-else-s-i-3
-returns-else-s-i-3 c =
-    let s = c.args.s.now in
-    rw (c.loop-j.invariant.1, key-done s _ c.loop-j.i _ _ c.loop-j-test.false, begins s c.loop-j.i (omega arith))
+    let h = c.in_ok-rest.ensures.cases in
+    stands a.s.now a.key.now a.at c.min.result (omega arith) c.in_ok-rest.rest.now h.0 h.1

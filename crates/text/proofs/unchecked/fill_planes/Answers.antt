@@ -11,7 +11,7 @@ use Rattle.text.proofs.Characters.{length-in, word-at}
 use Rattle.text.proofs.unchecked.fill_planes.Goals as goal
 
 pub loop-k-init : goal.loop-k-init
-loop-k-init c = (omega arith, omega arith, start refl, start refl)
+loop-k-init c = (omega arith, start refl, start refl)
 
 pub overflow_sub-left : goal.overflow_sub-left
 overflow_sub-left c = omega arith
@@ -28,14 +28,13 @@ loop-k-preserved c =
     let s : List ℕ = a.s.now in
     let k : ℕ = c.loop-k.k in
     let left : ℕ = c.loop-k.left in
-    let n : ℕ = c.least-n.result in
-    let e : n ≡ min 64 (a.width - k * 64) = c.least-n.ensures ∙ ap (min 64) c.loop-k.invariant.1 in
+    let n : ℕ = c.min-n.result in
+    let e : n ≡ min 64 (a.width - k * 64) = omega (arith, c.min-n.ensures, c.loop-k.invariant.0) in
     let f : left - n + n ≡ a.width - k * 64 = omega arith in
     let x = c.read_word-x.ensures in (
       omega arith,
-      omega arith,
-      more c.loop-k.invariant.2 (omega arith) (ap (λ (y : Word). y.value) x ∙ word-at value_digit s a.place a.width k n (left - n) c.requires.width_in_bounds e f),
-      more c.loop-k.invariant.3 (omega (arith, c.requires.value_len.0, c.requires.value_len.1))
+      more c.loop-k.invariant.1 (omega arith) (ap (λ (y : Word). y.value) x ∙ word-at value_digit s a.place a.width k n (left - n) c.requires.width_in_bounds e f),
+      more c.loop-k.invariant.2 (omega (arith, c.requires.value_len.0, c.requires.value_len.1))
           (ap (λ (y : Word). y.unknown) x ∙ word-at unknown_digit s a.place a.width k n (left - n) c.requires.width_in_bounds e f),
     )
 
@@ -44,5 +43,5 @@ returns c =
     let a = c.args in
     let R = bits_in a.s.now a.place a.width in
     let e = ap word_count (sym (length-in a.s.now a.place a.width c.requires.width_in_bounds)) in
-    ap₂ lent (plane-done value_digit R _ _ _ c.loop-k.invariant.2 (omega arith) (c.requires.value_len.0 ∙ e))
-    (plane-done unknown_digit R _ _ _ c.loop-k.invariant.3 (omega (arith, c.requires.value_len.0, c.requires.value_len.1)) (c.requires.value_len.1 ∙ e))
+    ap₂ lent (plane-done value_digit R _ _ _ c.loop-k.invariant.1 (omega arith) (c.requires.value_len.0 ∙ e))
+    (plane-done unknown_digit R _ _ _ c.loop-k.invariant.2 (omega (arith, c.requires.value_len.0, c.requires.value_len.1)) (c.requires.value_len.1 ∙ e))

@@ -1,6 +1,6 @@
 -- `text::unchecked::fill_planes`: the words below k are those of the vector, and `left` characters are not yet read.
 use mathlib.Core.Path.{◌≡◌}
-use Prim.Native.Nat.{◌-◌, ◌*◌, ◌≤◌}
+use Prim.Native.Nat.{◌-◌, ◌*◌}
 use lib.ListN.{length}
 use Rattle.words.specs.Vector.{at, FilledTo}
 use Rattle.words.specs.Planes.{value_digit, unknown_digit, word_of}
@@ -9,10 +9,6 @@ use Rattle.text.proofs.unchecked.fill_planes.Given as goal
 
 abbrev pub invariant-loop-k : goal.invariant-loop-k
 invariant-loop-k l =
-    (l.k ≤ length l.initial.value)
-    × (l.left ≡ l.width - l.k * 64)
+    (l.left ≡ l.width - l.k * 64)
     × FilledTo 0 (word_of value_digit (at (bits_in l.s l.place l.width))) (length l.initial.value) l.k l.value
     × FilledTo 0 (word_of unknown_digit (at (bits_in l.s l.place l.width))) (length l.initial.unknown) l.k l.unknown
-
-abbrev pub decreases-loop-k : goal.decreases-loop-k
-decreases-loop-k l = length l.initial.value - l.k
