@@ -139,7 +139,7 @@ pub fn truth_result(a: Result<Truth, Refusal>) -> BitResult
     match a {
         Ok(t) => BitResult {
             refusal: 0,
-            bit: u8::from(reduce_words::truth_bit(t)),
+            bit: u8::from(LogicBit::from(t)),
         },
         Err(r) => BitResult {
             refusal: u8::from(r),

@@ -12,6 +12,7 @@ ghost use Rattle.compare_words.specs.declared.Comparison.TheVariants.{Equal, Cas
 ghost use Rattle.compare_words.specs.Compared.{compared};
 ghost use Rattle.narrow.specs.Narrow.{single, plain64};
 
+use bit::LogicBit;
 use compare_words::Comparison;
 use lanes::Bitwise;
 use words::Word;
@@ -85,7 +86,7 @@ pub extern "C" fn vowherunga_reduce_xor_word(a: Word) -> u8
 pub extern "C" fn vowherunga_truth_word(a: Word) -> u8
     ensures { result ≡ code (truth_bit (truth_of (vector_of 64 (single a)))) }
 {
-    u8::from(reduce_words::truth_bit(narrow::truth(a)))
+    u8::from(LogicBit::from(narrow::truth(a)))
 }
 
 // `narrow::compare` by `is_equal`

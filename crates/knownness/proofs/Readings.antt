@@ -20,7 +20,7 @@ use Rattle.value.specs.Checks.{Vector}
 use Rattle.extension.specs.Extension.{top, both_signed, operand_at}
 use Rattle.extension.proofs.Extension.{inside}
 use Rattle.reduce_words.specs.Fold.{reduce_and, reduce_or, reduce_xor, truth_of, truth_bit}
-use Rattle.reduce_words.proofs.Folds.{and-fold, or-fold, xor-fold, truth-or}
+use Rattle.reduce_words.proofs.Folds.{and-fold, or-fold, xor-fold, truth_or}
 use Rattle.knownness.specs.Knownness.{Known, Keeps, Completes, Pointwise}
 use Rattle.knownness.proofs.Bits.{ExactRule, exact_and, exact-or, exact-xor, keeps-refl}
 
@@ -164,4 +164,4 @@ pub of_xor : Reading (λ a. reduce_xor a.bits)
 of_xor = of-fold xor_bit Zero exact-xor tt reduce_xor xor-fold
 
 pub of-truth : Reading (λ a. truth_bit (truth_of a.bits))
-of-truth = of-fold or_bit Zero exact-or tt (λ bs. truth_bit (truth_of bs)) (λ bs. truth-or bs ∙ or-fold bs)
+of-truth = of-fold or_bit Zero exact-or tt (λ bs. truth_bit (truth_of bs)) (λ bs. truth_or bs ∙ or-fold bs)

@@ -68,7 +68,7 @@ pub fn truth(a: Word) -> Truth
 pub fn reduce_or(a: Word) -> LogicBit
     ensures { result ≡ reduce_or (vector_of 64 (single a)) }
 {
-    reduce_words::truth_bit(truth(a))
+    LogicBit::from(truth(a))
 }
 
 // x on any unknown bit, else whether the number of ones is odd.

@@ -1,6 +1,6 @@
 -- The reductions and truth beside each other.
 --     and-fold, or-fold, xor-fold     a reduction is its single-bit rule, folded over the bits from the rule's neutral bit
---     truth-or      truth as a bit is the or-reduction
+--     truth_or      truth as a bit is the or-reduction
 --     contains-and     whether a known 0 stands in a vector, denied, is the and-reduction
 use mathlib.Core.Path.{◌≡◌, refl, sym, ap, ◌∙◌}
 use mathlib.Core.Bool.{Bool, true, false, not, ◌&&◌, ◌||◌, cond}
@@ -85,8 +85,8 @@ xor-fold (b ∷ bs) = xor_step b (any_of is_unknown bs) (count_of (same One) bs)
 
 -- ---- truth
 
-pub truth-or : (bs : List LogicBit) → truth_bit (truth_of bs) ≡ reduce_or bs
-truth-or bs = go (any_of (same One) bs) (any_of is_unknown bs)
+pub truth_or : (bs : List LogicBit) → truth_bit (truth_of bs) ≡ reduce_or bs
+truth_or bs = go (any_of (same One) bs) (any_of is_unknown bs)
   where
     go : (seen x : Bool) → truth_bit (cond seen True (cond x Unknown False)) ≡ decided One Zero seen x
     go true x = refl

@@ -17,12 +17,14 @@ pub enum Truth {
 }
 
 // A truth as a bit: 0, 1, or x where it is unknown.
-pub fn truth_bit(t: Truth) -> LogicBit
-    ensures { result ≡ truth_bit t }
-{
-    match t {
-        Truth::False => LogicBit::Zero,
-        Truth::True => LogicBit::One,
-        Truth::Unknown => LogicBit::X,
+impl From<Truth> for LogicBit {
+    ghost from_gives = { λ t b. b ≡ truth_bit t };
+
+    fn from(t: Truth) -> LogicBit {
+        match t {
+            Truth::False => LogicBit::Zero,
+            Truth::True => LogicBit::One,
+            Truth::Unknown => LogicBit::X,
+        }
     }
 }

@@ -67,12 +67,13 @@ pub fn and_bits(width: u32, value: &[u64], unknown: &[u64]) -> LogicBit
 }
 
 // 1 on any known 1, else x on any unknown bit, else 0.
+#[tactic(auto, using(crate::proofs::Folds::truth_or))]
 pub fn or_bits(width: u32, value: &[u64], unknown: &[u64]) -> LogicBit
     requires plane { Plane width value.now }
     requires plane_2 { Plane width unknown.now }
     ensures { result ≡ reduce_or (from_planes width value.now unknown.now) }
 {
-    crate::truth_bit(truth(width, value, unknown))
+    LogicBit::from(truth(width, value, unknown))
 }
 
 // x on any unknown bit, else whether the number of ones is odd.

@@ -8,7 +8,7 @@ use Rattle.words.specs.Planes.{from_planes, packed, bit_of, lent}
 use Rattle.bits.proofs.Splice.{packed-bit}
 use Rattle.value.specs.Checks.{vector}
 use Rattle.reduce_words.specs.Fold.{truth_bit}
-use Rattle.reduce_words.proofs.Folds.{truth-or}
+use Rattle.reduce_words.proofs.Folds.{truth_or}
 use Rattle.ops.specs.declared.Question.{Question}
 use Rattle.ops.specs.Ops.{answer_bit}
 use Rattle.execute.proofs.Words.{lane-bit}
@@ -41,7 +41,7 @@ returns-2 c =
     let a = c.args in
     c.truth_word.ensures
     ∙ ap truth_bit c.truth.ensures.1
-    ∙ truth-or (from_planes a.a.width a.av.now a.au.now)
+    ∙ truth_or (from_planes a.a.width a.av.now a.au.now)
     ∙ told c.before.before.before _ c.in-ReduceOr.is
 
 returns-3 : tie.Need-returns-in-ReduceXor
