@@ -4,6 +4,7 @@
 --     half-small, halves                   a word times f by its halves of 32 bits
 --     readable-parts                       the first character of a text that is read, and the others
 --     goes_none, goes_over, goes-digit     an empty chunk, and one with an underscore or a digit more
+--     has-number                           a character that is read, but for an underscore, is a digit, an x or a z
 --     value-lt, unknown-lt                 a digit's numbers are below the base
 use mathlib.Core.Path.{◌≡◌, refl, sym, ap, ◌∙◌}
 use mathlib.Core.Bool.{Bool, true, false, ◌||◌, cond}
@@ -12,13 +13,14 @@ use Prim.Native.Nat.{ℕ, ◌+◌, ◌-◌, ◌*◌, ◌/◌, ◌%◌, ◌^◌, 
 use native.Mathlib.Nat.{zero-mul, mod-one, add_assoc, mul_assoc, add-mul, mul_right_comm, mul-le-mul, div-add-mod', mul-add-div_right}
 use native.Mathlib.Omega.{arith}
 use borrow.Author.Tests.{ltb-true}
+use Rattle.std.specs.Prelude.{Option, Some, None, unwrap_or, is_some}
 use lib.Dec.{ltb}
 use lib.ListN.{length, get_or}
 use lib.Pow.{pow_pos, split, shr-shr, mod-pow-add}
 use Rattle.bit.proofs.Tests.{and-true}
 use Rattle.words.proofs.Planes.{get_d_tabulate}
-use Rattle.literal_words.specs.Digits.{is_z, is_unknown, is_underscore, digit_number, digits, number_by, each}
-use Rattle.literal_words.specs.Passes.{words_of, value_number, unknown_number, readable, Goes}
+use Rattle.literal_words.specs.Digits.{is_z, is_unknown, is_underscore, digit_of, digit_number, digits, number_by, each}
+use Rattle.literal_words.specs.Passes.{words_of, has_number, value_number, unknown_number, readable, Goes}
 
 -- word k of a number
 abbrev pub word : ℕ → ℕ → ℕ
@@ -102,6 +104,21 @@ module _ (r : ℕ) (f : ℕ → ℕ) (p v : ℕ) (t : List ℕ) (c : ℕ) (u : L
   goes-digit {d} k e n =
       let sum : (n * p + v) * r + f c ≡ n * (p * r) + (v * r + d) = omega (arith, add-mul (n * p) v r, mul_assoc n p r) in
       simp e at (h n) ∙ ap (λ (m : ℕ). number_by r f m (digits u)) sum
+
+pub has-number : (r c : ℕ) → r ≤ 16 → (ltb (digit_number c) r || (is_unknown c || is_underscore c)) ≡ true → is_underscore c ≡ false
+    → has_number c ≡ true
+unfolding digit_number
+has-number r c R = go (digit_of c) (is_unknown c) (is_underscore c)
+  where
+    go : (o : Option ℕ) (b m : Bool) → (ltb (unwrap_or o 16) r || (b || m)) ≡ true → m ≡ false → (is_some o || b) ≡ true
+    go (Some d) b m k e = refl
+    go None true m k e = refl
+    go None false true k e = let q : ◌≡◌ {A = ℕ} 0 1 = cc in absurd (omega arith)
+    go None false false k e = go-far (ltb 16 r) refl k
+      where
+        go-far : (l : Bool) → ltb 16 r ≡ l → (l || false) ≡ true → false ≡ true
+        go-far true f k = let n : 16 < r = ltb-true _ _ f in absurd (omega arith)
+        go-far false f k = k
 
 pub unknown-lt : (r c : ℕ) → 0 < r → unknown_number r c < r
 unfolding unknown_number

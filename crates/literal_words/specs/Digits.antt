@@ -1,10 +1,13 @@
 -- The value of a sized literal and the bits that it stands for: IEEE 1800-2017, 5.7.1, with `?` for z; document 02, point 1. A text is a list of
 -- bytes, and a base is its letter.
 use Rattle.std.specs.Prelude.{Bool, true, false, not, ◌&&◌, ◌||◌, cond, List, [], ◌∷◌, ◌++◌, ℕ, ◌+◌, ◌-◌, ◌*◌, ◌%◌, ◌^◌, eqb, leb, ltb, get_or}
+use Rattle.std.specs.Prelude.{Option, Some, None, unwrap_or}
 use Rattle.bit.specs.declared.LogicBit.{LogicBit}
 use Rattle.bit.specs.declared.LogicBit.TheVariants.{Zero, X, Z}
 use Rattle.words.specs.Vector.{tabulate, bit_at}
 use Rattle.words.specs.Planes.{stored}
+use Rattle.literal_words.specs.declared.Base.{Base}
+use Rattle.literal_words.specs.declared.Base.TheVariants.{Binary, Octal, Decimal, Hex}
 
 -- the largest size of a literal
 abbrev pub max_size : ℕ
@@ -30,10 +33,14 @@ is_unknown c = is_x c || is_z c
 abbrev pub between : ℕ → ℕ → ℕ → Bool
 between lo hi c = leb lo c && leb c hi
 
--- the number of a digit 0 to 9, a to f, A to F; 16, which no base has, for any other character
+-- the number of a digit 0 to 9, a to f, A to F
+abbrev pub digit_of : ℕ → Option ℕ
+digit_of c =
+    cond (between 48 57 c) (Some (c - 48)) (cond (between 97 102 c) (Some (c - 87)) (cond (between 65 70 c) (Some (c - 55)) None))
+
+-- that number; 16, which no base has, for any other character
 unfoldable pub digit_number : ℕ → ℕ
-digit_number c =
-    cond (between 48 57 c) (c - 48) (cond (between 97 102 c) (c - 87) (cond (between 65 70 c) (c - 55) 16))
+digit_number c = unwrap_or (digit_of c) 16
 
 -- ---- bases: b, o, d, else h
 
@@ -45,6 +52,20 @@ is_o c = eqb c 111 || eqb c 79
 
 abbrev pub is_d : ℕ → Bool
 is_d c = eqb c 100 || eqb c 68
+
+abbrev pub is_h : ℕ → Bool
+is_h c = eqb c 104 || eqb c 72
+
+-- the base of a letter
+abbrev pub base_of : ℕ → Option Base
+base_of c = cond (is_b c) (Some Binary) (cond (is_o c) (Some Octal) (cond (is_d c) (Some Decimal) (cond (is_h c) (Some Hex) None)))
+
+-- the letter of a base, in lower case
+abbrev pub letter : Base → ℕ
+letter Binary = 98
+letter Octal = 111
+letter Decimal = 100
+letter Hex = 104
 
 unfoldable pub radix : ℕ → ℕ
 radix base = cond (is_b base) 2 (cond (is_o base) 8 (cond (is_d base) 10 16))

@@ -1,7 +1,7 @@
 -- Both planes as numbers that take in one digit after the other, for the passes over their words.
-use Rattle.std.specs.Prelude.{◌≡◌, Bool, true, ◌||◌, cond, List, ℕ, ◌+◌, ◌-◌, ◌*◌, ◌/◌, ◌%◌, ◌^◌, ◌≤◌, ◌<◌, ltb, length, drop}
+use Rattle.std.specs.Prelude.{◌≡◌, Bool, true, ◌||◌, cond, List, ℕ, ◌+◌, ◌-◌, ◌*◌, ◌/◌, ◌%◌, ◌^◌, ◌≤◌, ◌<◌, ltb, length, drop, is_some}
 use Rattle.words.specs.Vector.{tabulate}
-use Rattle.literal_words.specs.Digits.{is_z, is_unknown, is_underscore, digit_number, digits, number_by, each}
+use Rattle.literal_words.specs.Digits.{is_z, is_unknown, is_underscore, digit_of, digit_number, digits, number_by, each}
 use Rattle.literal_words.specs.declared.unchecked.Chunk.{Chunk}
 
 -- the n lowest words of a number
@@ -15,6 +15,10 @@ value_number r c = cond (is_unknown c) (cond (is_z c) (r - 1) 0) (digit_number c
 -- and to the unknown plane: all ones for x and z
 unfoldable pub unknown_number : ℕ → ℕ → ℕ
 unknown_number r c = cond (is_unknown c) (r - 1) 0
+
+-- a digit, an x or a z
+abbrev pub has_number : ℕ → Bool
+has_number c = is_some (digit_of c) || is_unknown c
 
 -- each character is a digit in base r, an x or a z, or an underscore
 unfoldable pub readable : ℕ → List ℕ → Bool

@@ -1,8 +1,8 @@
-// The value of a sized literal (IEEE 1800-2017, 5.7.1): what its characters stand for. A base is its letter.
+// The value of a sized literal (IEEE 1800-2017, 5.7.1): what its characters stand for.
 #![tactic(auto)]
 
 ghost use Rattle.std.specs.Prelude.{◌≡◌, [], ◌∷◌};
-ghost use Rattle.literal_words.specs.Digits.{is_x, is_z, is_unknown, is_d, digit_number, radix as radix_of};
+ghost use Rattle.literal_words.specs.Digits.{is_x, is_z, is_unknown, is_d, digit_of, base_of, letter, radix as radix_of};
 ghost use Rattle.literal_words.specs.Digits.{leading as leading_bit};
 
 use bit::LogicBit;
@@ -11,6 +11,15 @@ pub mod unchecked;
 
 // The largest size of a literal.
 pub const MAX_SIZE: u32 = 4096;
+
+// The base of a literal's digits: b, o, d or h.
+#[derive(Clone, Copy, PartialEq, Eq)]
+pub enum Base {
+    Binary,
+    Octal,
+    Decimal,
+    Hex,
+}
 
 // x or X.
 fn is_x(c: u8) -> bool
@@ -33,43 +42,53 @@ pub fn is_unknown(c: u8) -> bool
     is_x(c) | is_z(c)
 }
 
-// The number of a digit 0 to 9, a to f or A to F; 16 for any other character.
-pub fn digit_number(c: u8) -> u64
-    ensures { result ≡ digit_number c }
+// The number of a digit 0 to 9, a to f or A to F; none for any other character.
+pub fn digit_number(c: u8) -> Option<u64>
+    ensures { result ≡ digit_of c }
 {
-    if (b'0' <= c) & (c <= b'9') {
-        return (c - b'0') as u64;
+    match c {
+        b'0'..=b'9' => Some((c - b'0') as u64),
+        b'a'..=b'f' => Some((c - 87) as u64),
+        b'A'..=b'F' => Some((c - 55) as u64),
+        _ => None,
     }
-    if (b'a' <= c) & (c <= b'f') {
-        return (c - 87) as u64;
-    }
-    if (b'A' <= c) & (c <= b'F') {
-        return (c - 55) as u64;
-    }
-    16
 }
 
-// d or D.
-pub fn is_decimal(base: u8) -> bool
-    ensures { result ≡ is_d base }
+// The base of a letter, in either case; none for any other character.
+pub fn base_of(c: u8) -> Option<Base>
+    ensures { result ≡ base_of c }
 {
-    (base == b'd') | (base == b'D')
+    match c {
+        b'b' | b'B' => Some(Base::Binary),
+        b'o' | b'O' => Some(Base::Octal),
+        b'd' | b'D' => Some(Base::Decimal),
+        b'h' | b'H' => Some(Base::Hex),
+        _ => None,
+    }
 }
 
-// 2 for b, 8 for o, 10 for d, else 16.
-pub fn radix(base: u8) -> u64
-    ensures { result ≡ radix_of base }
+// Whether it is the base of the letter d.
+pub fn is_decimal(base: Base) -> bool
+    ensures { result ≡ is_d (letter base) }
 {
-    if (base == b'b') | (base == b'B') {
-        return 2;
+    base == Base::Decimal
+}
+
+// 2, 8, 10 or 16.
+#[tactic(auto, unfolding(crate::specs::Digits::radix))]
+pub fn radix(base: Base) -> u64
+    ensures { result ≡ radix_of (letter base) }
+{
+    match base {
+        Base::Binary => 2,
+        Base::Octal => 8,
+        Base::Decimal => 10,
+        Base::Hex => 16,
     }
-    if (base == b'o') | (base == b'O') {
-        return 8;
-    }
-    if is_decimal(base) { 10 } else { 16 }
 }
 
 // The bit beyond the digits, by the first of them: x or z if that is one, else 0.
+#[tactic(auto, unfolding(crate::specs::Digits::leading))]
 fn leading(c: u8) -> LogicBit
     ensures { result ≡ leading_bit (c ∷ []) }
 {

@@ -3,10 +3,10 @@
 // for a value of the base and for planes of the right length.
 ghost use Rattle.std.specs.Prelude.{◌≡◌, ◌+◌, ◌*◌, ◌^◌, ◌≤◌, ◌<◌, true, length, drop};
 ghost use Rattle.words.specs.Planes.{word_count, lent_by, planes_of};
-ghost use Rattle.literal_words.specs.Digits.{is_value, value_bits, digits, number_by};
-ghost use Rattle.literal_words.specs.Passes.{value_number, unknown_number, readable, ChunkOf, Taken};
+ghost use Rattle.literal_words.specs.Digits.{is_value, value_bits, digits, number_by, letter};
+ghost use Rattle.literal_words.specs.Passes.{has_number, value_number, unknown_number, readable, ChunkOf, Taken};
 
-use crate::{digit_number, is_unknown, is_x, is_z, leading, radix};
+use crate::{Base, digit_number, is_unknown, is_z, leading, radix};
 use words::unchecked::{extend_into, mask_plane};
 
 // Digits read at once: what they add to either plane, the power of the base that has as many, and the place behind them.
@@ -18,18 +18,20 @@ struct Chunk {
     next: usize,
 }
 
-// What a character adds to the value plane.
+// What a digit, an x or a z adds to the value plane.
+#[tactic(auto, unfolding(crate::specs::Passes::value_number, crate::specs::Digits::digit_number))]
 fn value_number(r: u64, c: u8) -> u64
     requires { 0 < r }
-    ensures { result ≡ value_number r c }
+    ensures { has_number c ≡ true → result ≡ value_number r c }
 {
-    if is_z(c) {
-        return r - 1;
+    match digit_number(c) {
+        Some(d) => d,
+        None => if is_z(c) { r - 1 } else { 0 },
     }
-    if is_x(c) { 0 } else { digit_number(c) }
 }
 
 // What a character adds to the unknown plane.
+#[tactic(auto, unfolding(crate::specs::Passes::unknown_number))]
 fn unknown_number(r: u64, c: u8) -> u64
     requires { 0 < r }
     ensures { result ≡ unknown_number r c }
@@ -47,6 +49,7 @@ fn read_chunk(s: &[u8], from: usize, r: u64) -> Chunk
     let mut unknown = 0;
     let mut power = 1;
     let mut i = from;
+    // A `while`: the power ends it too, and the place where it ends is a result.
     while (i < s.len()) & (power <= 0x1000_0000) {
         let c = s[i];
         i += 1;
@@ -71,14 +74,11 @@ fn times_plus(plane: &mut [u64], factor: u64, add: u64)
     ensures { Taken (λ n. n * factor + add) plane.old plane.new }
 {
     let mut carry = add;
-    let mut k = 0;
-    while k < plane.len() {
-        let x = plane[k];
-        let low = x % 0x1_0000_0000 * factor + carry;
-        let high = x / 0x1_0000_0000 * factor + low / 0x1_0000_0000;
-        plane[k] = high % 0x1_0000_0000 * 0x1_0000_0000 + low % 0x1_0000_0000;
+    for x in plane.iter_mut() {
+        let low = *x % 0x1_0000_0000 * factor + carry;
+        let high = *x / 0x1_0000_0000 * factor + low / 0x1_0000_0000;
+        *x = high % 0x1_0000_0000 * 0x1_0000_0000 + low % 0x1_0000_0000;
         carry = high / 0x1_0000_0000;
-        k += 1;
     }
 }
 
@@ -96,6 +96,7 @@ fn take_digits(s: &[u8], from: usize, r: u64, value: &mut [u64], unknown: &mut [
         unknown.new }
 {
     let mut i = from;
+    // A `while`: each turn goes on by a whole chunk.
     while i < s.len() {
         let c = read_chunk(s, i, r);
         let power = c.power;
@@ -107,17 +108,17 @@ fn take_digits(s: &[u8], from: usize, r: u64, value: &mut [u64], unknown: &mut [
 
 // Writes the planes of the vector that the value from a place on stands for.
 pub fn fill_planes(
-    base: u8,
+    base: Base,
     width: u32,
     s: &[u8],
     from: usize,
     value: &mut [u64],
     unknown: &mut [u64],
 )
-    requires s_value { is_value base (drop from s.now) ≡ true }
+    requires s_value { is_value (letter base) (drop from s.now) ≡ true }
     requires width_nonzero { (0 < width) × (length value.old ≡ word_count width) × (length unknown.old ≡ word_count width) }
     ensures { lent_by value.new unknown.new
-        ≡ planes_of (value_bits base width (drop from s.now)) }
+        ≡ planes_of (value_bits (letter base) width (drop from s.now)) }
 {
     let r = radix(base);
     let beyond = leading(s[from]);
