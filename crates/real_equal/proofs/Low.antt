@@ -2,7 +2,7 @@
 --     not_negative, negative                            a number of w bits in two's complement
 --     ones_lt                                           the known ones of the low word lie below the width
 --     fill-integer, unsigned-integer, signed-integer    by the header's marks
---     accepted-whole                                    what an operand has that its check accepts
+--     accepted_whole                                    what an operand has that its check accepts
 use Rattle.std.proofs.Common.{◌≡◌, ℕ, zero, suc, ◌+◌, ◌-◌, ◌*◌, ◌/◌, ◌%◌, ◌^◌, ◌<◌, ◌≤◌, min, max, true, false, List, length, get_or, pos, negsuc, sym, refl, ap, ◌∙◌, ap₂, ⊎_elim, lt_of_le_of_lt, mod-lt, zero-add, arith, lit<, pow_pos, lt-ltb, le-leb}
 use native.Mathlib.Nat.{pow-succ', mod-le}
 use borrow.Author.Tests.{lt-leb}
@@ -111,7 +111,7 @@ module _ {h : Header} {v u : List ℕ} (l : LowWords h v u) where
 
 -- ---- the operand
 
-pub accepted-whole : (o : Operand) (p : Planes) → check_operand o p ≡ given tt → WholePlanes o p
+pub accepted_whole : (o : Operand) (p : Planes) → check_operand o p ≡ given tt → WholePlanes o p
 unfolding check_operand
-accepted-whole (variants.Vector h) p e = let s = (vector_accepted h p e).planes in (s.value-plane, s.unknown-plane)
-accepted-whole (variants.Real x) p e = tt
+accepted_whole (variants.Vector h) p e = let s = (vector_accepted h p e).planes in (s.value-plane, s.unknown-plane)
+accepted_whole (variants.Real x) p e = tt

@@ -7,8 +7,8 @@ ghost use Rattle.refusal.specs.Outcome.{answer};
 ghost use Rattle.value.specs.Checks.{vector};
 ghost use Rattle.real_equal.specs.Numeric.{vector_integer, real_of, WholePlanes, real_equality};
 
-use refusal::Refusal;
 use bit::LogicBit;
+use refusal::Refusal;
 use value::{Header, Operand, check_operand};
 use words::unchecked::{kept, ones};
 
@@ -44,6 +44,7 @@ fn operand_real(o: Operand, value: &[u64], unknown: &[u64]) -> f64
 }
 
 // Equality where an operand is a real: both count as reals. A NaN is unequal to all, and both zeros are equal.
+#[tactic(auto, using(crate::proofs::Low::accepted_whole))]
 pub fn equal_reals(
     a: Operand,
     av: &[u64],
@@ -55,16 +56,10 @@ pub fn equal_reals(
     ensures { answer result
         ≡ real_equality a (lent_by av.now au.now) b (lent_by bv.now bu.now) }
 {
-    match check_operand(a, av, au) {
-        Err(r) => Err(r),
-        Ok(()) => match check_operand(b, bv, bu) {
-            Err(r) => Err(r),
-            Ok(()) => {
-                if operand_real(a, av, au) == operand_real(b, bv, bu) {
-                    return Ok(LogicBit::One);
-                }
-                Ok(LogicBit::Zero)
-            }
-        },
+    check_operand(a, av, au)?;
+    check_operand(b, bv, bu)?;
+    if operand_real(a, av, au) == operand_real(b, bv, bu) {
+        return Ok(LogicBit::One);
     }
+    Ok(LogicBit::Zero)
 }
