@@ -7,12 +7,9 @@ use native.Mathlib.Nat.{div-eq_of_lt, mod-eq_of_lt}
 use lib.ListN.{get_or}
 use Rattle.bit.specs.declared.LogicBit.{LogicBit}
 use Rattle.bit.specs.declared.LogicBit.TheVariants.{Zero}
-use Rattle.refusal.specs.Outcome.{Answer, outcome, or_refuse}
-use Rattle.refusal.specs.Outcome.Answer.{given}
 use Rattle.words.specs.Vector.{bit_at, tabulate}
-use Rattle.words.specs.Planes.{Planes, planes_of, from_planes, stored, plane_bit}
-use Rattle.value.specs.Checks.{plain, check_output}
-use Rattle.constructors.specs.Constructors.{clamped, constructed}
+use Rattle.words.specs.Planes.{Planes, from_planes, stored, plane_bit}
+use Rattle.constructors.specs.Constructors.{constructed, from_u64}
 use Rattle.words.proofs.Digits.{bit-above, bit-of-zero, lt-or-ge}
 use Rattle.words.proofs.Planes.{get_d_tabulate, get_d-tabulate-out}
 
@@ -36,9 +33,7 @@ number_bit x h i =
 pub number : (x : ℕ) → x < 2 ^ 64 → ◌≡◌ {A = ℕ → LogicBit} (λ i. get_or (from_planes 64 (x ∷ []) (0 ∷ [])) i Zero) (λ i. stored (bit_at x i) 0)
 number x h = λ k i. number_bit x h i k
 
--- how a constructor ends, by the check of its output at the clamped width m
-module _ (w m : ℕ) (f : ℕ → LogicBit) (p : Planes) (e : m ≡ clamped w) where
-  pub by-check : (a : Answer Unit) → check_output m p ≡ a → constructed w f p ≡ or_refuse a p (outcome (given (plain m)) (planes_of (tabulate m f)))
-  by-check a h =
-      ap (λ (n : ℕ). or_refuse (check_output n p) p (outcome (given (plain n)) (planes_of (tabulate n f)))) (sym e)
-      ∙ ap (λ (a : Answer Unit). or_refuse a p (outcome (given (plain m)) (planes_of (tabulate m f)))) h
+-- and so the constructor of a number gives them
+pub number_given : (x w : ℕ) (p : Planes) → x < 2 ^ 64
+    → constructed w (λ i. get_or (from_planes 64 (x ∷ []) (0 ∷ [])) i Zero) p ≡ from_u64 x w p
+number_given x w p h = ap (λ (f : ℕ → LogicBit). constructed w f p) (number x h)

@@ -6,9 +6,9 @@ ghost use Rattle.refusal.specs.Outcome.{outcome, answer};
 ghost use Rattle.words.specs.Planes.{from_planes, lent_by};
 ghost use Rattle.constructors.specs.Constructors.{clamped, constructed, new_vector, zero_vector, from_u64};
 
-use refusal::Refusal;
 use bit::LogicBit;
-use value::{MAX_WIDTH, check_output, plain_header};
+use refusal::Refusal;
+use value::{Header, MAX_WIDTH, check_output, plain_header};
 
 // A width above the widest vector's becomes that.
 fn cap_width(width: u32) -> u32
@@ -18,6 +18,7 @@ fn cap_width(width: u32) -> u32
 }
 
 // A vector at a clamped width: its low bits are the `count` low bits of a number, and every further bit is `beyond`.
+#[tactic(auto, unfolding(value::specs::Checks::check_output))]
 fn construct(
     width: u32,
     value: &mut [u64],
@@ -32,18 +33,15 @@ fn construct(
         (lent_by value.old unknown.old) }
 {
     let w = cap_width(width);
-    match check_output(w, value, unknown) {
-        Err(r) => Err(r),
-        Ok(()) => {
-            let low = [val];
-            let none = [0u64];
-            words::unchecked::extend_into(w, value, unknown, &low, &none, count, beyond);
-            Ok(plain_header(w))
-        }
-    }
+    check_output(w, value, unknown)?;
+    let low = [val];
+    let none = [0u64];
+    words::unchecked::extend_into(w, value, unknown, &low, &none, count, beyond);
+    Ok(plain_header(w))
 }
 
 // All x, at a clamped width.
+#[tactic(auto, unfolding(words::specs::Vector::tabulate))]
 pub fn new(width: u32, value: &mut [u64], unknown: &mut [u64]) -> Result<Header, Refusal>
     ensures { outcome (answer result) (lent_by value.new unknown.new)
         ≡ new_vector width (lent_by value.old unknown.old) }
@@ -52,6 +50,7 @@ pub fn new(width: u32, value: &mut [u64], unknown: &mut [u64]) -> Result<Header,
 }
 
 // All 0, at a clamped width.
+#[tactic(auto, unfolding(words::specs::Vector::tabulate))]
 pub fn zero(width: u32, value: &mut [u64], unknown: &mut [u64]) -> Result<Header, Refusal>
     ensures { outcome (answer result) (lent_by value.new unknown.new)
         ≡ zero_vector width (lent_by value.old unknown.old) }
@@ -60,7 +59,13 @@ pub fn zero(width: u32, value: &mut [u64], unknown: &mut [u64]) -> Result<Header
 }
 
 // The bits of a number, at a clamped width.
-pub fn from_u64(val: u64, width: u32, value: &mut [u64], unknown: &mut [u64]) -> Result<Header, Refusal>
+#[tactic(auto, using(crate::proofs::Constructors::number_given))]
+pub fn from_u64(
+    val: u64,
+    width: u32,
+    value: &mut [u64],
+    unknown: &mut [u64],
+) -> Result<Header, Refusal>
     ensures { outcome (answer result) (lent_by value.new unknown.new)
         ≡ from_u64 val width (lent_by value.old unknown.old) }
 {
