@@ -7,13 +7,14 @@ ghost use Rattle.words.specs.Planes.{lent_by};
 ghost use Rattle.lanes.specs.declared.Bitwise.TheVariants.{And, Or, Xor, Merge};
 ghost use Rattle.bitwise.specs.Bitwise.{join_vectors, bitwise_not};
 
-use refusal::Refusal;
 use bitwise_words::result_header;
 use bitwise_words::unchecked::{join_planes, not_planes};
 use lanes::Bitwise;
+use refusal::Refusal;
 use value::{Header, check_output, check_vector};
 
 // The operator on two vectors of any widths, into planes of the larger width.
+#[tactic(auto, using(value::proofs::Checks::vector_accepted), unfolding(value::specs::Checks::check_output))]
 fn join_vectors(
     op: Bitwise,
     a: Header,
@@ -28,23 +29,12 @@ fn join_vectors(
     ensures { outcome (answer result) (lent_by ov.new ou.new)
         ≡ join_vectors op a (lent_by av.now au.now) b (lent_by bv.now bu.now) (lent_by ov.old ou.old) }
 {
-    match check_vector(a, av, au) {
-        Err(r) => Err(r),
-        Ok(()) => match check_vector(b, bv, bu) {
-            Err(r) => Err(r),
-            Ok(()) => {
-                let h = result_header(op, a, b);
-                let width = h.width;
-                match check_output(width, ov, ou) {
-                    Err(r) => Err(r),
-                    Ok(()) => {
-                        join_planes(op, a, av, au, b, bv, bu, width, ov, ou);
-                        Ok(h)
-                    }
-                }
-            }
-        },
-    }
+    check_vector(a, av, au)?;
+    check_vector(b, bv, bu)?;
+    let h = result_header(op, a, b);
+    check_output(h.width, ov, ou)?;
+    join_planes(op, a, av, au, b, bv, bu, h.width, ov, ou);
+    Ok(h)
 }
 
 // 0 at a place where either has 0, 1 where both have 1, else x.
@@ -116,6 +106,7 @@ pub fn merge_unknown(
 }
 
 // 0 and 1 exchanged; x and z give x.
+#[tactic(auto, using(value::proofs::Checks::vector_accepted), unfolding(value::specs::Checks::check_output))]
 pub fn bitwise_not(
     a: Header,
     av: &[u64],
@@ -126,19 +117,12 @@ pub fn bitwise_not(
     ensures { outcome (answer result) (lent_by ov.new ou.new)
         ≡ bitwise_not a (lent_by av.now au.now) (lent_by ov.old ou.old) }
 {
-    let width = a.width;
-    match check_vector(a, av, au) {
-        Err(r) => Err(r),
-        Ok(()) => match check_output(width, ov, ou) {
-            Err(r) => Err(r),
-            Ok(()) => {
-                not_planes(width, av, au, ov, ou);
-                Ok(Header {
-                    width: width,
-                    is_signed: a.is_signed,
-                    is_fill: false,
-                })
-            }
-        },
-    }
+    check_vector(a, av, au)?;
+    check_output(a.width, ov, ou)?;
+    not_planes(a.width, av, au, ov, ou);
+    Ok(Header {
+        width: a.width,
+        is_signed: a.is_signed,
+        is_fill: false,
+    })
 }
