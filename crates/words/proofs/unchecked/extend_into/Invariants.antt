@@ -1,6 +1,6 @@
 -- `words::unchecked::extend_into`: the words below k are those of the vector.
 use mathlib.Core.List.{List}
-use Prim.Native.Nat.{ℕ, ◌≤◌, ◌-◌}
+use Prim.Native.Nat.{ℕ}
 use lib.ListN.{length, get_or}
 use Rattle.bit.specs.declared.LogicBit.{LogicBit}
 use Rattle.words.specs.Vector.{tabulate, at, FilledTo}
