@@ -13,9 +13,9 @@ pub fn bit_byte(b: LogicBit) -> u8
     ensures { result ≡ bit_byte b }
 {
     match b {
-        LogicBit::Zero => 48,
-        LogicBit::One => 49,
-        LogicBit::X => 120,
-        LogicBit::Z => 122,
+        LogicBit::Zero => b'0',
+        LogicBit::One => b'1',
+        LogicBit::X => b'x',
+        LogicBit::Z => b'z',
     }
 }

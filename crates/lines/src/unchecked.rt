@@ -11,12 +11,9 @@ pub fn put_bytes(out: &mut [u8], at: usize, bytes: &[u8]) -> usize
     requires { at + length bytes.now ≤ length out.old }
     ensures { buffer out.new result ≡ put (buffer out.old at) bytes.now }
 {
-    let mut j = 0;
-    while j < bytes.len() {
-        out[at + j] = bytes[j];
-        j += 1;
-    }
-    at + j
+    let end = at + bytes.len();
+    out[at..end].copy_from_slice(bytes);
+    end
 }
 
 // A number in decimal.
@@ -25,11 +22,11 @@ pub fn put_number(out: &mut [u8], at: usize, n: u32) -> usize
     ensures { buffer out.new result ≡ put (buffer out.old at) (decimal n) }
 {
     if n < 10 {
-        out[at] = 48 + n as u8;
+        out[at] = b'0' + n as u8;
         return at + 1;
     }
     let i = put_number(out, at, n / 10);
-    out[i] = 48 + (n % 10) as u8;
+    out[i] = b'0' + (n % 10) as u8;
     i + 1
 }
 
@@ -41,7 +38,7 @@ pub fn put_number_line(out: &mut [u8], at: usize, key: &[u8], n: u32) -> usize
 {
     let i = put_bytes(out, at, key);
     let j = put_number(out, i, n);
-    out[j] = 10;
+    out[j] = b'\n';
     j + 1
 }
 
@@ -52,14 +49,12 @@ pub fn put_bits(out: &mut [u8], at: usize, width: u32, value: &[u64], unknown: &
     ensures { buffer out.new result
         ≡ put (buffer out.old at) (bit_digits (from_planes width value.now unknown.now)) }
 {
-    let mut i = at;
-    let mut left = width as usize;
-    while 0 < left {
-        left -= 1;
-        out[i] = bit_byte(bits::unchecked::get(width, value, unknown, left));
-        i += 1;
+    let count = width as usize;
+    for k in 0..count {
+        let bit = bits::unchecked::get(width, value, unknown, count - 1 - k);
+        out[at + k] = bit_byte(bit);
     }
-    i
+    at + count
 }
 
 // A line of `key` and the bits of a vector.
@@ -79,6 +74,6 @@ pub fn put_bits_line(
 {
     let i = put_bytes(out, at, key);
     let end = put_bits(out, i, width, value, unknown);
-    out[end] = 10;
+    out[end] = b'\n';
     end + 1
 }
