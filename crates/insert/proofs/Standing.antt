@@ -1,11 +1,13 @@
 -- Whether the bits that an insert puts in stand there already.
 --     told-by-words     the words that are read out and those that are put in, both cut off, tell it
+--     told              the same in the numbers of the code
+--     stands_none       at or above the width, they stand there
 --     stands-spliced    where they stand there, putting them in changes nothing
 use mathlib.Core.Path.{◌≡◌, refl, sym, ap, ap₂, ◌∙◌, subst}
 use mathlib.Core.Bool.{Bool, true, false, ◌&&◌, cond}
 use mathlib.Core.Logic.{⊎_elim}
 use mathlib.Core.List.{List}
-use Prim.Native.Nat.{ℕ, zero, suc, ◌+◌, ◌-◌, ◌^◌, ◌≤◌, ◌<◌, suc-le-suc}
+use Prim.Native.Nat.{ℕ, zero, suc, ◌+◌, ◌-◌, ◌^◌, ◌≤◌, ◌<◌, min, suc-le-suc}
 use native.Mathlib.Nat.{not-suc-le-zero, le_of_suc-le-suc, zero-lt-suc, lt_of_le_of_lt}
 use native.Mathlib.Omega.{arith}
 use borrow.Author.Tests.{lt-ltb, le-ltb, leb-true, ltb-true, eq-eqb}
@@ -19,9 +21,9 @@ use Rattle.bit.proofs.Tests.{and_left, and_right, and_intro, bool-ext}
 use Rattle.bit.proofs.Table.{same-eq}
 use Rattle.words.specs.declared.Word.{Word}
 use Rattle.words.specs.Vector.{at, bit_at, pack}
-use Rattle.words.specs.Planes.{value_digit, unknown_digit, stored, bit_of}
+use Rattle.words.specs.Planes.{value_digit, unknown_digit, stored, bit_of, from_planes}
 use Rattle.words.proofs.Digits.{bit-lt, bit-mod, bit-mod-above, pack-bit, pack-ext, lt-or-ge}
-use Rattle.words.proofs.Planes.{eq-tabulate, stored-bit, value-digit-lt, unknown-digit-lt, value-digit-stored, unknown-digit-stored}
+use Rattle.words.proofs.Planes.{length-tabulate, eq-tabulate, stored-bit, value-digit-lt, unknown-digit-lt, value-digit-stored, unknown-digit-stored}
 use Rattle.bits.specs.Bits.{within, splice_count, spliced, extracted}
 use Rattle.insert.specs.Insert.{all_below, stands}
 
@@ -94,6 +96,26 @@ module _ (bs : List LogicBit) (pos n : ℕ) (x : Word) (hn : n ≤ 64) (hv : x.v
           and_intro (eqb (extracted bs pos n).value (bit_and x.value (2 ^ n - 1))) (eqb (extracted bs pos n).unknown (bit_and x.unknown (2 ^ n - 1)))
           (subst T (sym (eq-eqb (extracted bs pos n).value (bit_and x.value (2 ^ n - 1)) (sym (cut-is value_digit value-digit-lt refl x.value old n hn hv (λ j l. value_of j (e j l)))))) tt)
           (subst T (sym (eq-eqb (extracted bs pos n).unknown (bit_and x.unknown (2 ^ n - 1)) (sym (cut-is unknown_digit unknown-digit-lt refl x.unknown old n hn hu (λ j l. unknown-of j (e j l)))))) tt)
+
+-- the same, in the numbers of the code
+module _ (w : ℕ) (v u : List ℕ) (pos n : ℕ) (x : Word) where
+  pub told : (room count m : ℕ) (old : Word) (b : Bool) → x.value < 2 ^ 64 → x.unknown < 2 ^ 64
+      → room ≡ min 64 (w - pos) → count ≡ min n room → m ≡ 2 ^ count - 1 → old ≡ extracted (from_planes w v u) pos count
+      → b ≡ (eqb old.value (bit_and x.value m) && eqb old.unknown (bit_and x.unknown m))
+      → b ≡ stands (from_planes w v u) pos n x
+  told room count m old b hv hu er ec em eo eb =
+      eb
+      ∙ ap₂ (λ (y : Word) (k : ℕ). eqb y.value (bit_and x.value k) && eqb y.unknown (bit_and x.unknown k)) eo em
+      ∙ told-by-words (from_planes w v u) pos count x (omega arith) hv hu
+      ∙ ap (λ (k : ℕ). all_below k (λ j. same (bit_of x j) (at (from_planes w v u) (pos + j))))
+      (ec ∙ ap (min n) (er ∙ ap (λ (k : ℕ). min 64 (k - pos)) (sym (length-tabulate w _))))
+
+-- at or above the width nothing is put in
+pub stands_none : (bs : List LogicBit) (pos n : ℕ) (x : Word) → length bs ≤ pos → stands bs pos n x ≡ true
+unfolding all_below
+stands_none bs pos n x h =
+    let e : splice_count (length bs) pos n ≡ 0 = omega arith in
+    ap (λ (k : ℕ). all_below k (λ j. same (bit_of x j) (at bs (pos + j)))) e
 
 -- where the bits stand there already, the vector stays
 pub stands-spliced : (bs : List LogicBit) (pos n : ℕ) (x : Word) → stands bs pos n x ≡ true → spliced bs pos n x ≡ bs

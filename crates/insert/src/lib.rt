@@ -13,6 +13,7 @@ use words::Word;
 pub mod unchecked;
 
 // Puts the lowest bits of a word in from `pos` on: the least of n, 64 and the width minus `pos` of them. Whether a bit changed.
+#[tactic(auto, using(value::proofs::Checks::vector_accepted))]
 pub fn splice_bits64(
     a: Header,
     value: &mut [u64],
@@ -24,10 +25,6 @@ pub fn splice_bits64(
     ensures { outcome (answer result) (lent_by value.new unknown.new)
         ≡ insert_bits a (lent_by value.old unknown.old) pos bits n }
 {
-    match check_vector(a, value, unknown) {
-        Err(r) => Err(r),
-        Ok(()) => Ok(unchecked::splice_bits64(
-            a.width, value, unknown, pos, bits, n,
-        )),
-    }
+    check_vector(a, value, unknown)?;
+    Ok(unchecked::splice_bits64(a.width, value, unknown, pos, bits, n))
 }

@@ -1,5 +1,5 @@
 // The work behind insert. These ask their caller for an accepted vector.
-ghost use Rattle.std.specs.Prelude.{◌≡◌, not, ◌&&◌, eqb};
+ghost use Rattle.std.specs.Prelude.{◌≡◌, not};
 ghost use Rattle.words.specs.Planes.{from_planes, lent_by, planes_of, Plane};
 ghost use Rattle.bits.specs.Bits.{spliced};
 ghost use Rattle.insert.specs.Insert.{stands};
@@ -7,18 +7,8 @@ ghost use Rattle.insert.specs.Insert.{stands};
 use words::Word;
 use words::unchecked::{least, ones};
 
-// Whether a word of both planes is these two words.
-fn is_word(x: Word, value: u64, unknown: u64) -> bool
-    ensures { result ≡ (eqb x.value value && eqb x.unknown unknown) }
-{
-    if x.value == value {
-        x.unknown == unknown
-    } else {
-        false
-    }
-}
-
 // Puts bits in, as `splice64` of planes does, and tells whether one changed.
+#[tactic(auto, using(crate::proofs::Standing::told))]
 pub fn splice_bits64(
     width: u32,
     value: &mut [u64],
@@ -42,7 +32,11 @@ pub fn splice_bits64(
     let count = least(n, room);
     let old = bits::unchecked::extract64(width, value, unknown, pos, count);
     let m = ones(count);
-    if is_word(old, bits.value & m, bits.unknown & m) {
+    let asked = Word {
+        value: bits.value & m,
+        unknown: bits.unknown & m,
+    };
+    if old == asked {
         return false;
     }
     bits::unchecked::splice64(width, value, unknown, pos, bits, n);
