@@ -1,7 +1,7 @@
 -- Two operands place by place.
 --     zero-apart, zero-unsure     two zeros neither mismatch nor leave the answer open
 --     one_apart, one-unsure       nor do two ones
---     answer-found                what a scan finds gives the answer
+--     answer_found                what a scan finds gives the answer
 --     none-clear, lowest-at       no member passes a test; one passes, and none before it does
 --     found_at                    what is found where a place mismatches and none below it does
 --     found-open, found-same      what is found where the scan ends without a mismatch: the lowest unsure place; none
@@ -60,8 +60,8 @@ module _ (op : Comparison) where
 
 -- ---- what a scan finds
 
-pub answer-found : (op : Comparison) (ps : List (LogicBit × LogicBit)) → found_bit (found op ps) ≡ decided op ps
-answer-found op ps = go (any_of (on_pair (mismatch op)) ps) (any_of (on_pair (unsure op)) ps)
+pub answer_found : (op : Comparison) (ps : List (LogicBit × LogicBit)) → found_bit (found op ps) ≡ decided op ps
+answer_found op ps = go (any_of (on_pair (mismatch op)) ps) (any_of (on_pair (unsure op)) ps)
   where
     go : (m d : Bool)
         → found_bit (cond m (Mismatch (lowest (on_pair (mismatch op)) ps)) (cond d (Unsure (lowest (on_pair (unsure op)) ps)) Same)) ≡ cond m Zero (cond d X One)

@@ -27,12 +27,14 @@ pub enum Found {
 }
 
 // The answer of a comparison, by what its scan found: 0, x or 1.
-pub fn found_bit(found: Found) -> LogicBit
-    ensures { result ≡ found_bit found }
-{
-    match found {
-        Found::Mismatch(_) => LogicBit::Zero,
-        Found::Unsure(_) => LogicBit::X,
-        Found::Same => LogicBit::One,
+impl From<Found> for LogicBit {
+    ghost from_gives = { λ f b. b ≡ found_bit f };
+
+    fn from(found: Found) -> LogicBit {
+        match found {
+            Found::Mismatch(_) => LogicBit::Zero,
+            Found::Unsure(_) => LogicBit::X,
+            Found::Same => LogicBit::One,
+        }
     }
 }

@@ -215,6 +215,7 @@ pub fn scan(
 }
 
 // The comparison of two accepted vectors: what the scan finds gives the bit.
+#[tactic(auto, using(crate::proofs::Places::answer_found))]
 pub fn compare(
     op: Comparison,
     a: Header,
@@ -229,5 +230,5 @@ pub fn compare(
     ensures { result
         ≡ compared op (vector a (lent_by av.now au.now)) (vector b (lent_by bv.now bu.now)) }
 {
-    crate::found_bit(scan(op, a, av, au, b, bv, bu))
+    LogicBit::from(scan(op, a, av, au, b, bv, bu))
 }

@@ -1,5 +1,5 @@
 -- What the scan finds of two vectors tells the rule.
---     equal-rule, wildcard-rule    as the definitions have it
+--     equal_told, wildcard_told    as the definitions have it
 --     equal-goes, wildcard-goes    the bit goes with the rule
 use mathlib.Core.Path.{◌≡◌, refl, sym, ap₂, ◌∙◌}
 use mathlib.Core.Bool.{Bool, true, false, not, ◌&&◌, cond}
@@ -13,7 +13,7 @@ use Rattle.compare_words.specs.declared.Comparison.TheVariants.{Equal, WildcardE
 use Rattle.compare_words.specs.declared.Found.{Found}
 use Rattle.compare_words.specs.declared.Found.TheVariants.{Mismatch, Unsure, Same}
 use Rattle.compare_words.specs.Compared.{mismatch, unsure, on_pair, places, compared, lowest, found, found_bit}
-use Rattle.compare_words.proofs.Places.{answer-found}
+use Rattle.compare_words.proofs.Places.{answer_found}
 use Rattle.decide.specs.declared.Rule.TheVariants.{KnownMismatch, Unknown, AllEqual}
 use Rattle.decide.specs.Rule.{every_place, right_known, differs, holds_unknown, rule_of, GoesWith}
 use Rattle.decide.specs.Decide.{found_rule}
@@ -60,7 +60,7 @@ module _ (op : Comparison) (compares : LogicBit → LogicBit → Bool)
       go false false = refl
 
   goes_with : GoesWith (rule_of compares a b) (compared op a b)
-  goes_with = rw (sym rule-scanned, sym (answer-found op (places a b))) (goes (found op (places a b)))
+  goes_with = rw (sym rule-scanned, sym (answer_found op (places a b))) (goes (found op (places a b)))
 
 differ-known : mismatch WildcardEqual ≡ differs right_known
 differ-known = as_one (λ x y. differ-right (known x) (known y) (not (same x y)))
@@ -69,14 +69,14 @@ unknown-known : unsure WildcardEqual ≡ holds_unknown right_known
 unknown-known = as_one (λ x y. unknown-right (known x) (known y))
 
 module _ (a b : Vector) where
-  pub equal-rule : found_rule (found Equal (places a b)) ≡ rule_of every_place a b
-  equal-rule = rule-scanned Equal every_place refl refl a b
+  pub equal_told : found_rule (found Equal (places a b)) ≡ rule_of every_place a b
+  equal_told = rule-scanned Equal every_place refl refl a b
 
   pub equal-goes : GoesWith (rule_of every_place a b) (compared Equal a b)
   equal-goes = goes_with Equal every_place refl refl a b
 
-  pub wildcard-rule : found_rule (found WildcardEqual (places a b)) ≡ rule_of right_known a b
-  wildcard-rule = rule-scanned WildcardEqual right_known differ-known unknown-known a b
+  pub wildcard_told : found_rule (found WildcardEqual (places a b)) ≡ rule_of right_known a b
+  wildcard_told = rule-scanned WildcardEqual right_known differ-known unknown-known a b
 
   pub wildcard-goes : GoesWith (rule_of right_known a b) (compared WildcardEqual a b)
   wildcard-goes = goes_with WildcardEqual right_known differ-known unknown-known a b

@@ -28,12 +28,12 @@ use Rattle.decide.specs.declared.Decision.{Decision}
 use Rattle.decide.specs.Rule.{every_place, right_known, rule_of, Fits, GoesWith}
 use Rattle.decide.specs.Decide.{decision, with_rule, equal_rule, decide_equal, decide_scanned, FitsOperands, Settles, EqualSettled, WildcardSettled}
 use Rattle.decide.proofs.Fits.{one-fits}
-use Rattle.decide.proofs.Scan.{equal-rule, equal-goes, wildcard-goes}
+use Rattle.decide.proofs.Scan.{equal_told, equal-goes, wildcard-goes}
 
 -- ---- the calls
 
 pub vectors : (a b : Header) (p q : Planes) → decide_scanned Equal a p b q ≡ decide_equal (operand.Vector a) p (operand.Vector b) q
-vectors a b p q = ap₂ with_rule (equal-rule (vector a p) (vector b q)) (compare.vectors a b p q)
+vectors a b p q = ap₂ with_rule (equal_told (vector a p) (vector b q)) (compare.vectors a b p q)
 
 pub real-left : (a b : Operand) (p q : Planes) (x : Float) → a ≡ operand.Real x → with_rule Numeric (real_equality a p b q) ≡ decide_equal a p b q
 real-left a b p q x e = ap₂ with_rule (sym (ap (λ (a : Operand). equal_rule a p b q) e ∙ by b)) (compare.real-left a b p q x e)

@@ -10,7 +10,7 @@ ghost use Rattle.decide.specs.Decide.{with_rule, decide_equal, decide_wildcard, 
 
 use bit::LogicBit;
 use compare_words::unchecked::scan;
-use compare_words::{Comparison, Found, found_bit};
+use compare_words::{Comparison, Found};
 use real_equal::unchecked::equal_reals;
 use refusal::Refusal;
 use value::{Header, Operand, check_pair};
@@ -33,17 +33,20 @@ pub struct Decision {
 }
 
 // The rule by what the scan found.
-fn found_rule(found: Found) -> Rule
-    ensures { result ≡ found_rule found }
-{
-    match found {
-        Found::Mismatch(i) => Rule::KnownMismatch(i),
-        Found::Unsure(i) => Rule::Unknown(i),
-        Found::Same => Rule::AllEqual,
+impl From<Found> for Rule {
+    ghost from_gives = { λ f r. r ≡ found_rule f };
+
+    fn from(found: Found) -> Rule {
+        match found {
+            Found::Mismatch(i) => Rule::KnownMismatch(i),
+            Found::Unsure(i) => Rule::Unknown(i),
+            Found::Same => Rule::AllEqual,
+        }
     }
 }
 
 // Two vectors: one scan gives the bit and the rule.
+#[tactic(auto, using(value::proofs::Checks::pair_accepted, compare_words::proofs::Places::answer_found))]
 fn decide_scanned(
     op: Comparison,
     a: Header,
@@ -56,32 +59,26 @@ fn decide_scanned(
     ensures { answer result
         ≡ decide_scanned op a (lent_by av.now au.now) b (lent_by bv.now bu.now) }
 {
-    match check_pair(a, av, au, b, bv, bu) {
-        Err(r) => Err(r),
-        Ok(()) => {
-            let found = scan(op, a, av, au, b, bv, bu);
-            Ok(Decision {
-                bit: found_bit(found),
-                rule: found_rule(found),
-            })
-        }
-    }
+    check_pair(a, av, au, b, bv, bu)?;
+    let found = scan(op, a, av, au, b, bv, bu);
+    Ok(Decision {
+        bit: LogicBit::from(found),
+        rule: Rule::from(found),
+    })
 }
 
 // A bit by the rule "numeric"; a refusal stays.
 fn numeric(a: Result<LogicBit, Refusal>) -> Result<Decision, Refusal>
     ensures { answer result ≡ with_rule Numeric (answer a) }
 {
-    match a {
-        Ok(b) => Ok(Decision {
-            bit: b,
-            rule: Rule::Numeric,
-        }),
-        Err(r) => Err(r),
-    }
+    Ok(Decision {
+        bit: a?,
+        rule: Rule::Numeric,
+    })
 }
 
 // The answer of `is_equal` of two vectors, and the rule.
+#[tactic(auto, using(crate::proofs::Scan::equal_told), unfolding(value::specs::Checks::check_operand))]
 pub fn decide_vectors(
     a: Header,
     av: &[u64],
@@ -108,16 +105,14 @@ pub fn decide_equal(
     ensures { answer result
         ≡ decide_equal a (lent_by av.now au.now) b (lent_by bv.now bu.now) }
 {
-    match a {
-        Operand::Vector(h) => match b {
-            Operand::Vector(g) => decide_vectors(h, av, au, g, bv, bu),
-            Operand::Real(_) => numeric(equal_reals(a, av, au, b, bv, bu)),
-        },
-        Operand::Real(_) => numeric(equal_reals(a, av, au, b, bv, bu)),
+    match (a, b) {
+        (Operand::Vector(h), Operand::Vector(g)) => decide_vectors(h, av, au, g, bv, bu),
+        _ => numeric(equal_reals(a, av, au, b, bv, bu)),
     }
 }
 
 // The answer of `wildcard_eq`, and the rule.
+#[tactic(auto, using(crate::proofs::Scan::wildcard_told))]
 pub fn decide_wildcard(
     a: Header,
     av: &[u64],
