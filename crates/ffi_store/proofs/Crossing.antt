@@ -1,12 +1,11 @@
 -- The laws that the exports end with.
 use mathlib.Core.Path.{◌≡◌, ap, ap₂, ◌∙◌}
 use Prim.Native.Nat.{ℕ}
+use Rattle.std.specs.Prelude.{Option, Some, None}
 use Rattle.refusal.specs.Outcome.{Answer, Outcome, outcome}
 use Rattle.words.specs.Planes.{Planes}
 use Rattle.value.specs.declared.Header.{Header}
 use Rattle.ops.specs.declared.Op.{Op}
-use Rattle.ops.specs.declared.OpAnswer.{OpAnswer}
-use Rattle.ops.specs.declared.OpAnswer.TheVariants as op-answer
 use Rattle.ops.specs.declared.Step.{Step}
 use Rattle.store.specs.declared.Store.{Store}
 use Rattle.store.specs.Store.{State, state, add_input, store_of}
@@ -26,11 +25,11 @@ crosses {S} {L} store rest f a m e g =
     ap (λ (x : Settled CellResult). crossed x (rest m)) e ∙ ap (λ (o : Outcome ℕ S). crossed (settled_by o.answer (store o.left) f) (rest o.left)) g
 
 -- a code that is no op's
-pub no-op-crosses : (n : ℕ) (f : Fields) (arenas scratch : Planes) (q : OpAnswer) (a b c : ℕ) → op-answer.NoOp ≡ q
+pub no-op-crosses : (n : ℕ) (f : Fields) (arenas scratch : Planes) (q : Option Op) (a b c : ℕ) → None ≡ q
     → crossed (settled (record { refusal = no_such_op; cell = 0 }) f) (arenas, scratch)
     ≡ crossed_step f (add_step_of q a b c (memory (state (store_of n f) arenas) scratch))
 no-op-crosses n f arenas scratch q a b c o =
-    ap (λ (p : OpAnswer). crossed_step f (add_step_of p a b c (memory (state (store_of n f) arenas) scratch))) o
+    ap (λ (p : Option Op). crossed_step f (add_step_of p a b c (memory (state (store_of n f) arenas) scratch))) o
 
 module _ (n : ℕ) (f : Fields) (arenas : Planes) (s : Store) (e : s ≡ store_of n f) where
   pub input-crosses : (h : Header) (p : Planes) (x : Answer ℕ) (left : State) (t : Settled CellResult)
@@ -39,9 +38,9 @@ module _ (n : ℕ) (f : Fields) (arenas : Planes) (s : Store) (e : s ≡ store_o
   input-crosses h p x left t d g =
       crosses (λ (m : State). m.store) (λ (m : State). m.arenas) f x left g (d ∙ ap (λ (r : Store). add_input (state r arenas) h p) e)
 
-  pub step-crosses : (scratch : Planes) (op : Op) (q : OpAnswer) (a b c : ℕ) (x : Answer ℕ) (left : Memory) (t : Settled CellResult)
-      → op-answer.Op op ≡ q → outcome x left ≡ add_step (memory (state s arenas) scratch) (step_of op a b c) → t ≡ settled_by x left.state.store f
+  pub step-crosses : (scratch : Planes) (op : Op) (q : Option Op) (a b c : ℕ) (x : Answer ℕ) (left : Memory) (t : Settled CellResult)
+      → Some op ≡ q → outcome x left ≡ add_step (memory (state s arenas) scratch) (step_of op a b c) → t ≡ settled_by x left.state.store f
       → crossed t (left.state.arenas, left.scratch) ≡ crossed_step f (add_step_of q a b c (memory (state (store_of n f) arenas) scratch))
   step-crosses scratch op q a b c x left t o d g =
       crosses (λ (m : Memory). m.state.store) (λ (m : Memory). (m.state.arenas, m.scratch)) f x left g
-      (d ∙ ap₂ (λ (r : Store) (p : OpAnswer). add_step_of p a b c (memory (state r arenas) scratch)) e o)
+      (d ∙ ap₂ (λ (r : Store) (p : Option Op). add_step_of p a b c (memory (state r arenas) scratch)) e o)

@@ -11,7 +11,7 @@ ghost use Rattle.cells.specs.Places.{fields_by};
 ghost use Rattle.store_abi.specs.Settled.{settled, crossed};
 ghost use Rattle.ffi_store.specs.Crossing.{crossed_input, add_step_of, crossed_step};
 
-use ops::{OpAnswer, Step, op_of};
+use ops::{Step, op_of};
 use store::store_of;
 use store_abi::{CellResult, settle};
 use value::Header;
@@ -69,11 +69,11 @@ pub extern "C" fn vowherunga_add_step(
         arena_value.old arena_unknown.old scratch_value.old scratch_unknown.old)) }
 {
     match op_of(op) {
-        OpAnswer::NoOp => CellResult {
+        None => CellResult {
             refusal: 255,
             cell: 0,
         },
-        OpAnswer::Op(o) => {
+        Some(o) => {
             let s = store_of(count, starts, widths, signs, fills);
             let step = Step {
                 op: o,

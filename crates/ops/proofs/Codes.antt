@@ -1,11 +1,11 @@
 -- Each op has a code of its own: it is the op of its code.
 use mathlib.Core.Path.{◌≡◌, refl}
+use Rattle.std.specs.Prelude.{Some}
 use Rattle.ops.specs.declared.Op.{Op}
 use Rattle.ops.specs.declared.Op.TheVariants.{And, Or, Xor, Not, Merge, ReduceAnd, ReduceOr, ReduceXor, Equal, CaseEqual, CasezEqual, CasexEqual, WildcardEqual, LogicAnd, LogicOr, Select, Insert}
-use Rattle.ops.specs.declared.OpAnswer.TheVariants as answer
 use Rattle.ops.specs.Names.{op_code, with_code, op_of}
 
-pub op-of-code : (op : Op) → op_of (op_code op) ≡ answer.Op op
+pub op-of-code : (op : Op) → op_of (op_code op) ≡ Some op
 unfolding with_code
 op-of-code And = refl
 op-of-code Or = refl

@@ -1,10 +1,8 @@
 -- Document 01, "Step list": the names of the ops, in its order; and the code that an op has in the exports.
-use Rattle.std.specs.Prelude.{cond, ℕ, List, [], ◌∷◌, eqb}
+use Rattle.std.specs.Prelude.{cond, ℕ, List, [], ◌∷◌, Option, Some, None, eqb}
 use Prim.Native.String.{String}
 use Rattle.ops.specs.declared.Op.{Op}
 use Rattle.ops.specs.declared.Op.TheVariants.{And, Or, Xor, Not, Merge, ReduceAnd, ReduceOr, ReduceXor, Equal, CaseEqual, CasezEqual, CasexEqual, WildcardEqual, LogicAnd, LogicOr, Select, Insert}
-use Rattle.ops.specs.declared.OpAnswer.{OpAnswer}
-use Rattle.ops.specs.declared.OpAnswer.TheVariants as answer
 
 abbrev pub all_ops : List Op
 all_ops = And ∷ Or ∷ Xor ∷ Not ∷ Merge ∷ ReduceAnd ∷ ReduceOr ∷ ReduceXor ∷ Equal ∷ CaseEqual ∷ CasezEqual ∷ CasexEqual ∷ WildcardEqual ∷ LogicAnd ∷ LogicOr ∷ Select ∷ Insert ∷ []
@@ -52,9 +50,9 @@ op_code Select = 15
 op_code Insert = 16
 
 -- the op of code n in a list, or none
-unfoldable pub with_code : ℕ → List Op → OpAnswer
-with_code n [] = answer.NoOp
-with_code n (op ∷ ops) = cond (eqb (op_code op) n) (answer.Op op) (with_code n ops)
+unfoldable pub with_code : ℕ → List Op → Option Op
+with_code n [] = None
+with_code n (op ∷ ops) = cond (eqb (op_code op) n) (Some op) (with_code n ops)
 
-abbrev pub op_of : ℕ → OpAnswer
+abbrev pub op_of : ℕ → Option Op
 op_of n = with_code n all_ops

@@ -33,13 +33,6 @@ pub enum Op {
     Insert,
 }
 
-// The op that has a code, or none.
-#[derive(Clone, Copy)]
-pub enum OpAnswer {
-    Op(Op),
-    NoOp,
-}
-
 // One step of a list: its op, and three numbers, of which the first are the cells that the op names; insert takes c as its position.
 #[derive(Clone, Copy)]
 pub struct Step {
@@ -152,32 +145,32 @@ pub fn result_header(op: Op, a: Header, b: Header, c: Header) -> Header
     }
 }
 
-// The op that has a code in the exports. The places of the table are the codes; the entry of a retired code is `NoOp`.
-pub fn op_of(code: u8) -> OpAnswer
+// The op that has a code in the exports. The places of the table are the codes; the entry of a retired code is `None`.
+pub fn op_of(code: u8) -> Option<Op>
     ensures { result ≡ op_of code }
 {
     let table = [
-        OpAnswer::Op(Op::And),
-        OpAnswer::Op(Op::Or),
-        OpAnswer::Op(Op::Xor),
-        OpAnswer::Op(Op::Not),
-        OpAnswer::Op(Op::Merge),
-        OpAnswer::Op(Op::ReduceAnd),
-        OpAnswer::Op(Op::ReduceOr),
-        OpAnswer::Op(Op::ReduceXor),
-        OpAnswer::Op(Op::Equal),
-        OpAnswer::Op(Op::CaseEqual),
-        OpAnswer::Op(Op::CasezEqual),
-        OpAnswer::Op(Op::CasexEqual),
-        OpAnswer::Op(Op::WildcardEqual),
-        OpAnswer::Op(Op::LogicAnd),
-        OpAnswer::Op(Op::LogicOr),
-        OpAnswer::Op(Op::Select),
-        OpAnswer::Op(Op::Insert),
+        Some(Op::And),
+        Some(Op::Or),
+        Some(Op::Xor),
+        Some(Op::Not),
+        Some(Op::Merge),
+        Some(Op::ReduceAnd),
+        Some(Op::ReduceOr),
+        Some(Op::ReduceXor),
+        Some(Op::Equal),
+        Some(Op::CaseEqual),
+        Some(Op::CasezEqual),
+        Some(Op::CasexEqual),
+        Some(Op::WildcardEqual),
+        Some(Op::LogicAnd),
+        Some(Op::LogicOr),
+        Some(Op::Select),
+        Some(Op::Insert),
     ];
     if code < 17 {
         table[code as usize]
     } else {
-        OpAnswer::NoOp
+        None
     }
 }

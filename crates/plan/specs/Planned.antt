@@ -26,4 +26,3 @@ planned hs s = record {
   start = words_taken hs;
   header = step_header hs s;
 }
-

@@ -20,4 +20,3 @@ pub struct PlannedStep {
     pub start: usize,
     pub header: Header,
 }
-

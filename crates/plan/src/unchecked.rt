@@ -53,16 +53,11 @@ pub fn plan_input(
     if 320 <= count {
         return Err(Refusal::StoreFull);
     }
-    match checked {
-        Err(r) => Err(r),
-        Ok(()) => {
-            if room.arena - next < word_count(width) {
-                Err(Refusal::NoRoom)
-            } else {
-                Ok(next)
-            }
-        }
+    checked?;
+    if room.arena - next < word_count(width) {
+        return Err(Refusal::NoRoom);
     }
+    Ok(next)
 }
 
 // The planned step, or its refusal: 12, 11, 7, then 13.

@@ -10,19 +10,19 @@ use Rattle.store_abi.specs.Settled.{settled}
 use Rattle.ffi_store.proofs.Crossing.{no-op-crosses, step-crosses}
 use Rattle.ffi_store.proofs.vowherunga_add_step.Goals as goal
 
-pub returns-in-NoOp : goal.returns-in-NoOp
-returns-in-NoOp c =
+pub returns-in-None : goal.returns-in-None
+returns-in-None c =
     let g = c.args in
     no-op-crosses g.count (fields g.starts.now g.widths.now g.signs.now g.fills.now) (lent g.arena_value.now g.arena_unknown.now)
-    (lent g.scratch_value.now g.scratch_unknown.now) (op_of g.op) g.a g.b g.c (sym c.in-NoOp.is ∙ c.op_of.ensures)
+    (lent g.scratch_value.now g.scratch_unknown.now) (op_of g.op) g.a g.b g.c (sym c.in-None.is ∙ c.op_of.ensures)
 
-pub returns-in-Op : goal.returns-in-Op
-returns-in-Op c =
+pub returns-in-Some : goal.returns-in-Op
+returns-in-Some c =
     let g = c.args in
     let r = c.add_step-r.result in
     step-crosses g.count (fields g.starts.now g.widths.now g.signs.now g.fills.now) (lent g.arena_value.now g.arena_unknown.now)
     c.store_of-s.result c.store_of-s.ensures
-    (lent g.scratch_value.now g.scratch_unknown.now) c.in-Op.o (op_of g.op) g.a g.b g.c
+    (lent g.scratch_value.now g.scratch_unknown.now) c.in-Some.o (op_of g.op) g.a g.b g.c
     (answer r.answer) (memory (state r.store (lent c.add_step-r.new.av c.add_step-r.new.au)) (lent c.add_step-r.new.sv c.add_step-r.new.su))
     (settled c.settle.result (fields c.settle.new.starts c.settle.new.widths c.settle.new.signs c.settle.new.fills))
-    (sym c.in-Op.is ∙ c.op_of.ensures) c.add_step-r.ensures c.settle.ensures
+    (sym c.in-Some.is ∙ c.op_of.ensures) c.add_step-r.ensures c.settle.ensures

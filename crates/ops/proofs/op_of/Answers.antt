@@ -6,11 +6,11 @@ use Prim.Native.Nat.{ℕ, ◌≤◌}
 use native.Mathlib.Omega.{arith}
 use lib.Dec.{T, ltb, ltb→lt}
 use borrow.Author.Tests.{ne_eqb}
+use Rattle.std.specs.Prelude.{None}
 use Rattle.bit.proofs.Tests.{and_left, and_right}
 use Rattle.words.specs.Vector.{tabulate}
 use Rattle.words.proofs.Planes.{get_d_tabulate}
 use Rattle.ops.specs.declared.Op.{Op}
-use Rattle.ops.specs.declared.OpAnswer.TheVariants.{NoOp}
 use Rattle.ops.specs.Names.{all_ops, op_code, with_code, op_of}
 use Rattle.ops.proofs.op_of.Goals as goal
 
@@ -20,7 +20,7 @@ below m [] = true
 below m (op ∷ ops) = ltb (op_code op) m && below m ops
 
 -- then none has the code m or a larger one
-beyond : (m n : ℕ) → m ≤ n → (ops : List Op) → T (below m ops) → NoOp ≡ with_code n ops
+beyond : (m n : ℕ) → m ≤ n → (ops : List Op) → T (below m ops) → None ≡ with_code n ops
 unfolding with_code
 beyond m n l [] t = refl
 beyond m n l (op ∷ ops) t =
