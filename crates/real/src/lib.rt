@@ -1,7 +1,7 @@
 // A real as a vector.
 #![tactic(auto)]
 
-ghost use Rattle.std.specs.Prelude.{◌≡◌, ◌+◌, ◌-◌, ◌*◌, ◌/◌, ◌%◌, ◌^◌, ◌<◌, max, length, if◌then◌else◌};
+ghost use Rattle.std.specs.Prelude.{◌≡◌, ◌+◌, ◌-◌, ◌*◌, ◌/◌, ◌%◌, ◌^◌, ◌<◌, length, if◌then◌else◌};
 ghost use Rattle.std.specs.Float.Ieee as Ieee;
 ghost use Rattle.std.specs.Float.{binary64};
 ghost use Rattle.refusal.specs.Outcome.{outcome, answer};
@@ -9,7 +9,7 @@ ghost use Rattle.words.specs.Planes.{word_count, lent_by, planes_of};
 ghost use Rattle.real.specs.Round.{at_half, whole_near, scaled, rounded, real_vector, from_real};
 
 use refusal::Refusal;
-use value::{MAX_WIDTH, check_output, plain_header};
+use value::{Header, MAX_WIDTH, check_output, plain_header};
 use words::unchecked::{kept, ones};
 
 // A whole number: digits * 2^shift, below zero if negative.
@@ -87,7 +87,7 @@ fn rounded_real(f: f64) -> Scaled
     if f != f {
         return ZERO;
     }
-    rounded_bits(f64::to_bits(f))
+    rounded_bits(f.to_bits())
 }
 
 // Word k of digits * 2^shift.
@@ -120,7 +120,7 @@ fn signed_word(negative: bool, zeros: bool, word: u64) -> u64
     if !zeros {
         return !word;
     }
-    std::num::wrapping_add_u64(!word, 1)
+    (!word).wrapping_add(1)
 }
 
 // Writes a real as a vector of the width.
@@ -133,38 +133,31 @@ fn write_real(f: f64, width: u32, value: &mut [u64], unknown: &mut [u64])
     let digits = r.digits;
     let shift = r.shift;
     let mut zeros = true;
-    let mut k = 0;
-    while k < value.len() {
+    for k in 0..value.len() {
         let word = size_word(digits, shift, k);
         let m = ones(kept(width, k));
         value[k] = signed_word(negative, zeros, word) & m;
         unknown[k] = 0;
         zeros = zeros & (word == 0);
-        k += 1;
     }
 }
 
-// The width; 0 is taken as 1.
-fn at_least_one(width: u32) -> u32
-    ensures { result ≡ max 1 width }
-{
-    if width == 0 { 1 } else { width }
-}
-
 // A real as an unsigned vector: rounded, half away from zero, modulo 2 to the width, which is at least 1. Infinite and NaN give 0.
-pub fn from_real_wrapped(f: f64, width: u32, value: &mut [u64], unknown: &mut [u64]) -> Result<Header, Refusal>
+#[tactic(auto, unfolding(value::specs::Checks::check_output))]
+pub fn from_real_wrapped(
+    f: f64,
+    width: u32,
+    value: &mut [u64],
+    unknown: &mut [u64],
+) -> Result<Header, Refusal>
     ensures { outcome (answer result) (lent_by value.new unknown.new)
         ≡ from_real f width (lent_by value.old unknown.old) }
 {
     if MAX_WIDTH < width {
         return Err(Refusal::TooWide);
     }
-    let w = at_least_one(width);
-    match check_output(w, value, unknown) {
-        Err(r) => Err(r),
-        Ok(()) => {
-            write_real(f, w, value, unknown);
-            Ok(plain_header(w))
-        }
-    }
+    let w = width.max(1);
+    check_output(w, value, unknown)?;
+    write_real(f, w, value, unknown);
+    Ok(plain_header(w))
 }

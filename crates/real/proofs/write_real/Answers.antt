@@ -10,7 +10,7 @@ use Rattle.real.proofs.write_real.Goals as goal
 pub loop-k-init : goal.loop-k-init
 loop-k-init c =
     let r = c.rounded_real-r.result in
-    (omega arith, zeros-none (r.digits * 2 ^ r.shift), start refl, start refl)
+    (zeros-none (r.digits * 2 ^ r.shift), start refl, start refl)
 
 pub size_word-word-requires : goal.size_word-word-requires
 size_word-word-requires c = omega arith
@@ -22,17 +22,16 @@ loop-k-preserved c =
     let k = c.loop-k.k in
     let m = r.result.digits * 2 ^ r.result.shift in
     let w = c.size_word-word.ensures in (
-      omega arith,
-      ap₂ (λ (b : Bool) (y : ℕ). b && eqb y 0) c.loop-k.invariant.1 w ∙ zeros-next m k,
-      more c.loop-k.invariant.2 (omega arith)
+      ap₂ (λ (b : Bool) (y : ℕ). b && eqb y 0) c.loop-k.invariant.0 w ∙ zeros-next m k,
+      more c.loop-k.invariant.1 (omega arith)
           (ap₂ bit_and (c.signed_word.ensures ∙ ap (signed_word r.result.negative c.loop-k.zeros) w) (c.ones-m.ensures ∙ ap (λ (n : ℕ). 2 ^ n - 1) c.kept.ensures)
-          ∙ value-word a.width a.f k r.result.negative c.loop-k.zeros m _ r.ensures c.loop-k.invariant.1 refl),
-      more c.loop-k.invariant.3 (omega (arith, c.requires.0, c.requires.1)) (unknown-word a.width a.f k),
+          ∙ value-word a.width a.f k r.result.negative c.loop-k.zeros m _ r.ensures c.loop-k.invariant.0 refl),
+      more c.loop-k.invariant.2 (omega (arith, c.requires.0, c.requires.1)) (unknown-word a.width a.f k),
     )
 
 pub returns : goal.returns
 returns c =
     let R = real_vector c.args.width c.args.f in
     let e = ap word_count (sym (real-length c.args.width c.args.f 0)) in
-    ap₂ lent (plane-done value_digit R _ _ _ c.loop-k.invariant.2 (omega arith) (c.requires.0 ∙ e))
-    (plane-done unknown_digit R _ _ _ c.loop-k.invariant.3 (omega (arith, c.requires.0, c.requires.1)) (c.requires.1 ∙ e))
+    ap₂ lent (plane-done value_digit R _ _ _ c.loop-k.invariant.1 (omega arith) (c.requires.0 ∙ e))
+    (plane-done unknown_digit R _ _ _ c.loop-k.invariant.2 (omega (arith, c.requires.0, c.requires.1)) (c.requires.1 ∙ e))
