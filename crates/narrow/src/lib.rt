@@ -65,6 +65,7 @@ pub fn truth(a: Word) -> Truth
 }
 
 // 1 on any known 1, else x on any unknown bit, else 0.
+#[tactic(auto, using(reduce_words::proofs::Folds::truth_or))]
 pub fn reduce_or(a: Word) -> LogicBit
     ensures { result ≡ reduce_or (vector_of 64 (single a)) }
 {
