@@ -47,9 +47,6 @@ module _ (b : ℕ) where
       ap (signed_by negative) (mul-one r ∙ e ∙ ap (λ (q : ℕ). whole_near q (2 ^ (1075 - exponent))) (add_comm fraction (2 ^ 52)))
       ∙ sym (by-fields ∙ fields-middle negative fraction fraction-lt exponent g h)
 
-pub overflow_add-digits : goal.overflow_add-digits
-overflow_add-digits c = omega (arith, fraction-lt c.args.bits)
-
 pub returns-then-exponent-lt1022 : goal.returns-then-exponent-lt1022
 returns-then-exponent-lt1022 c = small c.args.bits c.if-exponent-lt1022.true
 
@@ -58,9 +55,6 @@ returns-then-exponent-eq2047 c = none c.args.bits c.if-exponent-eq2047.true
 
 pub returns-then-exponent-ge1075 : goal.returns-then-exponent-ge1075
 returns-then-exponent-ge1075 c = large c.args.bits c.if-exponent-eq2047.false c.if-exponent-ge1075.true
-
-pub cut_near-near-requires : goal.cut_near-near-requires
-cut_near-near-requires c = omega (arith, fraction-lt c.args.bits)
 
 pub returns : goal.returns
 returns c = middle c.args.bits c.cut_near-near.result c.if-exponent-lt1022.false c.if-exponent-ge1075.false c.cut_near-near.ensures
