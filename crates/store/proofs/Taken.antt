@@ -1,5 +1,5 @@
 -- What is taken where store and arenas agree.
---     told-refused, told-accepted     what the check of the cells tells of 14
+--     told-accepted                   what the check of the cells tells of 14
 --     store-refused                   what 14 refuses
 --     input-refused, input-taken      an input
 --     step_left, step-few, step-refused, step-executable, step-taken     a step
@@ -22,7 +22,7 @@ use Rattle.cells.specs.declared.Cell.{Cell}
 use Rattle.cells.specs.declared.Fields.{Fields}
 use Rattle.cells.specs.Cells.{cell_vector, cell_agrees, check_cells, put_planes}
 use Rattle.cells.specs.Places.{cell_of, no_cell}
-use Rattle.cells.proofs.Answered.{not-given, after-given, answer-given, answer-refused, count-few}
+use Rattle.cells.proofs.Answered.{not-given, after-given, answer-given, count-few}
 use Rattle.cells.proofs.Spans.{Fits, fits-cell}
 use Rattle.cells.proofs.Agreed.{headers-count, cells-accepted}
 use Rattle.cells.proofs.Places.{cell-among}
@@ -39,14 +39,10 @@ use Rattle.store.proofs.Steps.{Admitted, behind-admitted, step-admitted, named-f
 
 -- ---- 14
 
-module _ (s : State) where
-  pub told-refused : (k : ℕ) → after (check_store s) (given (next_word s.store)) ≡ refused k → check_store s ≡ refused k
-  told-refused k e = answer-refused (check_store s) (next_word s.store) k e
-
-  pub told-accepted : (n : ℕ) → after (check_store s) (given (next_word s.store)) ≡ given n → (agrees s ≡ true) × (next_word s.store ≡ n)
-  told-accepted n e =
-      let x = answer-given (check_store s) (next_word s.store) n e in
-      (cells-accepted s.arenas s.store.cells s.store.count x.0, x.1)
+pub told-accepted : (s : State) (n : ℕ) → after (check_store s) (given (next_word s.store)) ≡ given n → (agrees s ≡ true) × (next_word s.store ≡ n)
+told-accepted s n e =
+    let x = answer-given (check_store s) (next_word s.store) n e in
+    (cells-accepted s.arenas s.store.cells s.store.count x.0, x.1)
 
 pub store-refused : (s : State) (k : ℕ) → check_store s ≡ refused k
     → ((h : Header) (p : Planes) → outcome (refused k) s ≡ add_input s h p)

@@ -1,6 +1,6 @@
 -- Document 01, "Cell store" and "Numbers for what is not done": what an input and a step do where store and arenas agree, so that 14 is not asked.
-use Rattle.refusal.specs.declared.Refusal.{Refusal}
 use Rattle.std.specs.Prelude.{◌≡◌, true, ℕ, Result, Ok, Err}
+use Rattle.refusal.specs.declared.Refusal.{Refusal}
 use Rattle.refusal.specs.Refusals.{refusal_number}
 use Rattle.refusal.specs.Outcome.{Answer, Outcome, outcome, or_refuse}
 use Rattle.refusal.specs.Outcome.Answer.{given, refused}
@@ -8,6 +8,7 @@ use Rattle.words.specs.Planes.{Planes, planes_of, vector_of}
 use Rattle.value.specs.declared.Header.{Header}
 use Rattle.value.specs.Checks.{check_vector}
 use Rattle.machine.specs.Machine.{check_input_behind}
+use Rattle.cells.specs.declared.Cell.{Cell}
 use Rattle.cells.specs.declared.Fields.{Fields}
 use Rattle.cells.specs.Cells.{put_planes}
 use Rattle.store.specs.declared.Store.{Store}
@@ -24,7 +25,7 @@ take_input n k h p arenas =
     or_refuse (check_input_behind (room_of arenas no_scratch) n k (check_vector h p) h.width) arenas
     (outcome (given k) (put_planes k (planes_of (vector_of h.width p)) arenas))
 
--- a step is refused, or its cell is added behind n others
+-- an input or a step is refused, or its cell is added behind n others
 abbrev pub taken_answer : ℕ → Result Cell Refusal → Answer ℕ
 taken_answer n (Ok c) = given n
 taken_answer n (Err r) = refused (refusal_number r)

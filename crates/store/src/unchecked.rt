@@ -7,14 +7,14 @@ ghost use Rattle.store.specs.Store.{store_by, with_cell};
 ghost use Rattle.store.specs.Step.{memory_by, add_step};
 ghost use Rattle.store.specs.Taken.{Laid, take_input, taken_answer, taken_store};
 
-use refusal::Refusal;
 use crate::Store;
-use cells::unchecked::copy_behind;
 use cells::Cell;
+use cells::unchecked::copy_behind;
 use execute::unchecked::execute;
 use machine::Room;
 use ops::Step;
 use plan::unchecked::{plan_input, plan_step};
+use refusal::Refusal;
 use value::{Header, check_vector};
 use words::unchecked::least;
 use words::word_count;
@@ -50,13 +50,9 @@ pub fn take_input(
         arena: av.len(),
         scratch: 0,
     };
-    match plan_input(count, next, h.width, checked, room) {
-        Err(r) => Err(r),
-        Ok(at) => {
-            copy_behind(at, word_count(h.width), value, unknown, av, au);
-            Ok(at)
-        }
-    }
+    let at = plan_input(count, next, h.width, checked, room)?;
+    copy_behind(at, word_count(h.width), value, unknown, av, au);
+    Ok(at)
 }
 
 // Plans a step on the first `count` cells, which take the first `next` words of the arenas, and executes it if it is not refused.
@@ -86,15 +82,10 @@ pub fn take_step<'a>(
         arena: av.len(),
         scratch: least(sv.len(), su.len()),
     };
-    match plan_step(step, count, next, widths, signs, fills, room) {
-        Err(r) => Err(r),
-        Ok(p) => {
-            execute(p, starts, widths, signs, fills, av, au, sv, su);
-            let h = p.header;
-            Ok(Cell {
-                start: p.start,
-                header: h,
-            })
-        }
-    }
+    let p = plan_step(step, count, next, widths, signs, fills, room)?;
+    execute(p, starts, widths, signs, fills, av, au, sv, su);
+    Ok(Cell {
+        start: p.start,
+        header: p.header,
+    })
 }
