@@ -1,10 +1,9 @@
 -- The parts of a literal behind its apostrophe, one law for each way through the code.
 --     sign-ends, sign_read      the sign: the end of the text, and an s or none
 --     base-ends, base-other, value-other, base_read     the base and the value behind it
---     no-size, a-size, no-literal, a-literal      what a width of 0 says, and any other
---     written-by    what was read, written
-use mathlib.Core.Path.{◌≡◌, sym, ap, ◌∙◌}
-use mathlib.Core.Bool.{Bool, true, false, cond}
+--     no-base, a-base           a letter is a base if `base_of` gives one
+use mathlib.Core.Path.{◌≡◌, refl, sym, ap, ◌∙◌}
+use mathlib.Core.Bool.{Bool, true, false, ◌||◌, cond}
 use mathlib.Core.List.{List, ◌∷◌}
 use Prim.Native.Nat.{ℕ, suc, ◌+◌, ◌≤◌, ◌<◌}
 use native.Mathlib.Nat.{add-zero}
@@ -12,17 +11,12 @@ use native.Mathlib.Numerals.{add-one}
 use mir.Val.{bool_byte}
 use lib.ListN.{length, drop, get_or, drop_of_length-le}
 use lib.Seq.{drop-cons}
-use lib.Dec.{eqb}
-use borrow.Author.Tests.{eq-eqb, ne_eqb}
-use Rattle.refusal.specs.Outcome.{Answer, outcome, or_refuse}
 use Rattle.refusal.specs.Outcome.Answer.{given, refused}
-use Rattle.words.specs.Planes.{Planes, planes_of}
-use Rattle.value.specs.Checks.{Vector, check_output}
-use Rattle.literal_words.specs.Digits.{value_bits, is_value}
-use Rattle.literal_read.specs.Literal.{is_s, is_base, sized, based, signed_based, literal, written_in, read_literal}
-use Rattle.literal_read.specs.Answers.{size_in, literal_in}
-use Rattle.literal_read.specs.declared.Size.{Size}
-use Rattle.literal_read.specs.declared.Literal.{Literal}
+use Rattle.std.specs.Prelude.{Option, Some, None, is_some}
+use Rattle.literal_words.specs.Digits.{is_b, is_o, is_d, is_h, base_of, value_bits, is_value}
+use Rattle.literal_words.specs.declared.Base.{Base}
+use Rattle.literal_words.specs.declared.Base.TheVariants.{Binary, Octal, Decimal, Hex}
+use Rattle.literal_read.specs.Literal.{is_s, is_base, sized, based, signed_based}
 
 module _ (w : ℕ) (s : List ℕ) (i : ℕ) where
   pub sign-ends : length s ≤ i → signed_based w (drop i s) ≡ refused 15
@@ -39,6 +33,22 @@ module _ (w : ℕ) (s : List ℕ) (i : ℕ) where
       plain : (b : Bool) → b ≡ false
           → cond b (based w true (drop (suc i) s)) (based w false (get_or s i 0 ∷ drop (suc i) s)) ≡ based w false (get_or s i 0 ∷ drop (suc i) s)
       plain b e = rw e
+
+base-some : (c : ℕ) → is_base c ≡ is_some (base_of c)
+base-some c = go (is_b c) (is_o c) (is_d c) (is_h c)
+  where
+    go : (x y z w : Bool) → (x || (y || (z || w))) ≡ is_some (cond x (Some Binary) (cond y (Some Octal) (cond z (Some Decimal) (cond w (Some Hex) None))))
+    go true y z w = refl
+    go false true z w = refl
+    go false false true w = refl
+    go false false false true = refl
+    go false false false false = refl
+
+pub no-base : (c : ℕ) → base_of c ≡ None → is_base c ≡ false
+no-base c e = base-some c ∙ ap (λ (o : Option Base). is_some o) e
+
+pub a-base : (c : ℕ) (b : Base) → base_of c ≡ Some b → is_base c ≡ true
+a-base c b e = base-some c ∙ ap (λ (o : Option Base). is_some o) e
 
 module _ (w : ℕ) (b : Bool) (s : List ℕ) (i : ℕ) where
   pub base-ends : length s ≤ i → based w b (drop i s) ≡ refused 15
@@ -59,33 +69,3 @@ module _ (w : ℕ) (b : Bool) (s : List ℕ) (i : ℕ) where
           → based w b (drop i s) ≡ given (record { header = sized w b; bits = value_bits (get_or s i 0) w (drop (i + 1) s) })
       unfolding based
       base_read f = rw (drop-cons s i 0 h, e, ← add-one i, f)
-
--- ---- what the code answers
-
-sized-not : (w : ℕ) (a : Answer Vector) → w ≡ 0 → cond (eqb w 0) (refused 15) a ≡ refused 15
-sized-not w a e = rw (eq-eqb w 0 e)
-
-sized-by : (w : ℕ) (a : Answer Vector) → (w ≡ 0 → ⊥) → cond (eqb w 0) (refused 15) a ≡ a
-sized-by w a h = rw (ne_eqb w 0 h)
-
-pub no-size : (s : List ℕ) (z : Size) → z.width ≡ 0 → size_in s z ≡ refused 15
-no-size s z e = sized-not z.width (signed_based z.width (drop z.next s)) e
-
-pub a-size : (s : List ℕ) (z : Size) → (z.width ≡ 0 → ⊥) → size_in s z ≡ signed_based z.width (drop z.next s)
-a-size s z h = sized-by z.width (signed_based z.width (drop z.next s)) h
-
-module _ (s : List ℕ) (l : Literal) where
-  abbrev pub vector_in : Vector
-  vector_in = record { header = sized l.width l.is_signed; bits = value_bits l.base l.width (drop l.value s) }
-
-  pub no-literal : l.width ≡ 0 → literal_in s l ≡ refused 15
-  no-literal e = sized-not l.width (given vector_in) e
-
-  pub a-literal : (l.width ≡ 0 → ⊥) → literal_in s l ≡ given vector_in
-  a-literal h = sized-by l.width (given vector_in) h
-
--- a vector that was read is written or refused as the planes lent are
-pub written-by : (t : List ℕ) (x : Vector) (out : Planes) (v : Answer Unit) → literal t ≡ given x → v ≡ check_output x.header.width out
-    → or_refuse v out (outcome (given x.header) (planes_of x.bits)) ≡ read_literal t out
-written-by t x out v e f =
-    ap (λ (w : Answer Unit). or_refuse w out (outcome (given x.header) (planes_of x.bits))) f ∙ sym (ap (λ (r : Answer Vector). written_in r out) e)
