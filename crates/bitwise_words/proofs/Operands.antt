@@ -1,9 +1,10 @@
 -- Two operands that are read by their extents, joined at a width that neither passes.
 --     all-written                        the planes of the result, once every word is written
+--     settled_joined                     operands read by their extents, joined, are the operands joined
 --     value_written, unknown-written     words of the result from those of the planes, where both operands have them whole
 use mathlib.Core.Path.{◌≡◌, sym, ap, ap₂, ◌∙◌}
 use mathlib.Core.List.{List}
-use Prim.Native.Nat.{ℕ, ◌/◌, ◌≤◌, ◌<◌, min}
+use Prim.Native.Nat.{ℕ, ◌/◌, ◌≤◌, ◌<◌, min, max}
 use native.Mathlib.Omega.{arith}
 use lib.ListN.{length, get_or}
 use Rattle.words.specs.declared.Word.{Word}
@@ -11,10 +12,14 @@ use Rattle.words.specs.Vector.{at, FilledTo}
 use Rattle.words.specs.Planes.{value_digit, unknown_digit, word_count, from_planes, word_of, word_at, word_in, lent, planes_of}
 use Rattle.words.proofs.Planes.{length-tabulate}
 use Rattle.words.proofs.Fill.{plane-done}
+use Rattle.value.specs.declared.Header.{Header}
+use Rattle.value.specs.Checks.{vector}
 use Rattle.extension.specs.declared.Extent.{Extent}
+use Rattle.extension.specs.Extension.{extent_of}
+use Rattle.extension.proofs.Extension.{settled}
 use Rattle.lanes.specs.declared.Bitwise.{Bitwise}
 use Rattle.lanes.specs.Lanes.{op_bit}
-use Rattle.bitwise_words.specs.Joined.{joined_word, joined_over}
+use Rattle.bitwise_words.specs.Joined.{joined_word, joined_over, joined}
 use Rattle.lanes.proofs.Places.{direct, whole_word}
 
 module _ (op : Bitwise) (w : ℕ) (x : Extent) (av au : List ℕ) (y : Extent) (bv bu : List ℕ) where
@@ -43,3 +48,9 @@ module _ (op : Bitwise) (w : ℕ) (x : Extent) (av au : List ℕ) (y : Extent) (
     pub unknown-written : FilledTo 0 (λ k. (joined_word op (lent av au) (lent bv bu) k).unknown) N n out
         → FilledTo 0 (word_of unknown_digit (at (joined_over op w x (lent av au) y (lent bv bu)))) M n out
     unknown-written g = record { long = long; upto = λ i l. g.upto i l ∙ ap (λ (z : Word). z.unknown) (direct_word h i (rw hn at l)) }
+
+-- the extents say each operand's bits beside the other
+pub settled_joined : (op : Bitwise) (a b : Header) (av au bv bu : List ℕ) (x y : Extent) (w : ℕ)
+    → x ≡ extent_of (vector a (lent av au)) b → y ≡ extent_of (vector b (lent bv bu)) a → w ≡ max a.width b.width
+    → joined_over op w x (lent av au) y (lent bv bu) ≡ joined op (vector a (lent av au)) (vector b (lent bv bu))
+settled_joined op a b av au bv bu x y w hx hy hw = settled (op_bit op) a b av au bv bu hx hy w hw

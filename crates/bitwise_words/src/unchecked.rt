@@ -35,8 +35,7 @@ fn join_words(
         (λ k. (joined_word op (lent_by av.now au.now) (lent_by bv.now bu.now) k).unknown)
         (length ou.old) n ou.new }
 {
-    let mut k = 0;
-    while k < n {
+    for k in 0..n {
         let a = Word {
             value: av[k],
             unknown: au[k],
@@ -48,7 +47,6 @@ fn join_words(
         let r = lanes(op, a, b);
         ov[k] = r.value;
         ou[k] = r.unknown;
-        k += 1;
     }
 }
 
@@ -104,20 +102,20 @@ fn join_extents(
 {
     let xb = x.beyond;
     let yb = y.beyond;
-    let mut k = least(x.width as usize, y.width as usize) / 64;
-    join_whole(op, av, au, bv, bu, ov, ou, k);
-    while k < ov.len() {
+    let whole = least(x.width as usize, y.width as usize) / 64;
+    join_whole(op, av, au, bv, bu, ov, ou, whole);
+    for k in whole..ov.len() {
         let p = operand_word(av, au, x.width, k, xb);
         let q = operand_word(bv, bu, y.width, k, yb);
         let r = lanes(op, p, q);
         let m = ones(kept(width, k));
         ov[k] = r.value & m;
         ou[k] = r.unknown & m;
-        k += 1;
     }
 }
 
 // The operator on two accepted operands: settles their fills, as each is read beside the other, and joins what it then has.
+#[tactic(auto, using(crate::proofs::Operands::settled_joined))]
 pub fn join_planes(
     op: Bitwise,
     a: Header,
@@ -152,8 +150,7 @@ pub fn not_planes(width: u32, av: &[u64], au: &[u64], ov: &mut [u64], ou: &mut [
         ≡ planes_of (inverted (from_planes width av.now au.now)) }
 {
     let last = ov.len() - 1;
-    let mut k = 0;
-    while k < last {
+    for k in 0..last {
         let a = Word {
             value: av[k],
             unknown: au[k],
@@ -161,7 +158,6 @@ pub fn not_planes(width: u32, av: &[u64], au: &[u64], ov: &mut [u64], ou: &mut [
         let r = not_lanes(a, 0xffff_ffff_ffff_ffff);
         ov[k] = r.value;
         ou[k] = r.unknown;
-        k += 1;
     }
     let a = Word {
         value: av[last],

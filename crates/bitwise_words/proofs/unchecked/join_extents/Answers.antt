@@ -16,11 +16,10 @@ use Rattle.bitwise_words.proofs.unchecked.join_extents.Goals as goal
 pub loop-k-init : goal.loop-k-init
 loop-k-init c =
     let a = c.args in
-    let n = ap (λ (k : ℕ). k / 64) c.least-k.ensures in
+    let n = ap (λ (k : ℕ). k / 64) c.least-whole.ensures in
     let h = c.join_whole.ensures in (
       value_written a.op a.width a.x a.av.now a.au.now a.y a.bv.now a.bu.now c.requires.width_le_width.0 _ _ _ _ (h.filled_to.long ∙ c.requires.ov_len.0) n h.filled_to,
       unknown-written a.op a.width a.x a.av.now a.au.now a.y a.bv.now a.bu.now c.requires.width_le_width.0 _ _ _ _ (h.filled_to_2.long ∙ c.requires.ov_len.1) n h.filled_to_2,
-      omega (arith, c.ranges.width),
     )
 
 pub loop-k-preserved : goal.loop-k-preserved
@@ -34,7 +33,6 @@ loop-k-preserved c =
     ∙ rest-word (op_bit a.op) f g a.width c.loop-k.k c.operand_word-p.result c.operand_word-q.result c.operand_word-p.ensures c.operand_word-q.ensures in (
       more c.loop-k.invariant.0 (omega (arith, c.loop-k.invariant.0.long)) (ap (λ (z : Word). z.value) e),
       more c.loop-k.invariant.1 (omega (arith, c.loop-k.invariant.0.long)) (ap (λ (z : Word). z.unknown) e),
-      c.loop-k.invariant.2,
     )
 
 pub shape_of-ov : goal.shape_of-ov

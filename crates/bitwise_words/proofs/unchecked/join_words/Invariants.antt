@@ -1,5 +1,4 @@
 -- `bitwise_words::unchecked::join_words`: the words below k are the lanes of the operands' words.
-use Prim.Native.Nat.{◌≤◌, ◌-◌}
 use lib.ListN.{length}
 use Rattle.words.specs.Planes.{lent}
 use Rattle.words.specs.Vector.{FilledTo}
@@ -8,9 +7,5 @@ use Rattle.bitwise_words.proofs.unchecked.join_words.Given as goal
 
 abbrev pub invariant-loop-k : goal.invariant-loop-k
 invariant-loop-k l =
-    (l.k ≤ l.n)
-    × FilledTo 0 (λ i. (joined_word l.op (lent l.av l.au) (lent l.bv l.bu) i).value) (length l.initial.ov) l.k l.ov
+    FilledTo 0 (λ i. (joined_word l.op (lent l.av l.au) (lent l.bv l.bu) i).value) (length l.initial.ov) l.k l.ov
     × FilledTo 0 (λ i. (joined_word l.op (lent l.av l.au) (lent l.bv l.bu) i).unknown) (length l.initial.ou) l.k l.ou
-
-abbrev pub decreases-loop-k : goal.decreases-loop-k
-decreases-loop-k l = l.n - l.k

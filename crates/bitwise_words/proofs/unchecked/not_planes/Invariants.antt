@@ -1,5 +1,4 @@
 -- `bitwise_words::unchecked::not_planes`: the words below k are those of not, by words; at the end the last one is, and the law gives the bits.
-use Prim.Native.Nat.{◌-◌, ◌≤◌}
 use lib.ListN.{length}
 use Rattle.words.specs.Vector.{FilledTo}
 use Rattle.words.specs.Planes.{lent}
@@ -8,9 +7,5 @@ use Rattle.bitwise_words.proofs.unchecked.not_planes.Given as goal
 
 abbrev pub invariant-loop-k : goal.invariant-loop-k
 invariant-loop-k l =
-    (l.k ≤ l.last)
-    × FilledTo 0 (λ i. (inverted_word l.width (lent l.av l.au) i).value) (length l.initial.ov) l.k l.ov
+    FilledTo 0 (λ i. (inverted_word l.width (lent l.av l.au) i).value) (length l.initial.ov) l.k l.ov
     × FilledTo 0 (λ i. (inverted_word l.width (lent l.av l.au) i).unknown) (length l.initial.ou) l.k l.ou
-
-abbrev pub decreases-loop-k : goal.decreases-loop-k
-decreases-loop-k l = l.last - l.k
