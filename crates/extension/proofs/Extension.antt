@@ -2,6 +2,7 @@
 --     extent-at                         the bit at a place, told by the extent
 --     extent-stretched, extent-plain    the extent by the tests of the code
 --     no_top                            the top bit of a vector that has none is 0
+--     top_read                          the top bit is that at the width minus 1
 --     extent-narrow                     it is no wider than the operand
 --     settled                           two operands put together as their extents say
 --     inside                            a place below the width is read as it stands
@@ -9,7 +10,7 @@
 use mathlib.Core.Path.{◌≡◌, refl, ap, ap₂, ◌∙◌}
 use mathlib.Core.Bool.{Bool, true, false, not, ◌&&◌, cond}
 use mathlib.Core.List.{List, [], ◌∷◌}
-use Prim.Native.Nat.{ℕ, zero, suc, ◌≤◌, ◌<◌, max}
+use Prim.Native.Nat.{ℕ, zero, suc, ◌-◌, ◌≤◌, ◌<◌, max}
 use native.Mathlib.Nat.{not-suc-le-zero, le_of_suc-le-suc}
 use native.Mathlib.Omega.{arith}
 use borrow.Author.Tests.{not-false, eqb-true}
@@ -20,6 +21,7 @@ use Rattle.bit.specs.declared.LogicBit.TheVariants.{Zero}
 use Rattle.bit.proofs.Tests.{and_left, and_right, and_intro}
 use Rattle.words.specs.Vector.{at, tabulate}
 use Rattle.words.specs.Planes.{from_planes, Planes, lent}
+use Rattle.words.proofs.Planes.{length-tabulate}
 use Rattle.value.specs.declared.Header.{Header}
 use Rattle.extension.specs.declared.Extent.{Extent}
 use Rattle.value.specs.Checks.{Vector, vector}
@@ -56,6 +58,10 @@ pub no_top : (z : Bool) (w : ℕ) (v u : List ℕ) → z && not (eqb w 0) ≡ fa
 unfolding tabulate
 no_top true w v u h = ap (λ (n : ℕ). top (from_planes n v u)) (eqb-true w 0 (not-false (eqb w 0) h))
 no_top false w v u h = refl
+
+-- the top bit as the code reads it
+pub top_read : (w : ℕ) (v u : List ℕ) → top (from_planes w v u) ≡ at (from_planes w v u) (w - 1)
+top_read w v u = ap (λ (n : ℕ). at (from_planes w v u) (n - 1)) (length-tabulate w _)
 
 -- an extent is no wider than the operand
 narrow-by : (s : Bool) (w : ℕ) (first beyond : LogicBit) → (extent_by s w first beyond).width ≤ w

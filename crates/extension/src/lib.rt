@@ -21,7 +21,7 @@ pub struct Extent {
 pub fn larger(a: u32, b: u32) -> u32
     ensures { result ≡ max a b }
 {
-    if a < b { b } else { a }
+    a.max(b)
 }
 
 // Whether both operands are read as signed. A fill is not: it is stretched, and is then unsigned.

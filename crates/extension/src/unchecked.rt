@@ -9,6 +9,7 @@ use bit::LogicBit;
 use value::Header;
 
 // How the operand a is read beside one with the header b.
+#[tactic(auto, using(crate::proofs::Extension::top_read, crate::proofs::Extension::no_top))]
 pub fn extent(a: Header, value: &[u64], unknown: &[u64], b: Header) -> Extent
     requires { (length value.now ≡ word_count a.width) × (length unknown.now ≡ word_count a.width) }
     ensures { result ≡ extent_of (vector a (lent_by value.now unknown.now)) b }
