@@ -14,7 +14,7 @@ use value::{Header, MAX_WIDTH, check_output, plain_header};
 fn cap_width(width: u32) -> u32
     ensures { result ≡ clamped width }
 {
-    if MAX_WIDTH < width { MAX_WIDTH } else { width }
+    width.min(MAX_WIDTH)
 }
 
 // A vector at a clamped width: its low bits are the `count` low bits of a number, and every further bit is `beyond`.
