@@ -2,6 +2,7 @@
 --     any_some, any_found     some member passes a test where some place does; one that fails the test stands beyond the end
 --     any-tabulate            the same for a list that is told place by place
 --     inside, outside         a place below the width is two digits of word k; beyond the width the vector is continued
+--     lent-planes             planes that are lent to a function have words of 64 digits
 --     unknown-word, one_word, zero_word    the numbers of word k tell whether a bit of it is unknown, a known 1 or a known 0
 use mathlib.Core.Path.{◌≡◌, refl, sym, ap, ap₂, ◌∙◌}
 use mathlib.Core.Logic.{⊎_elim}
@@ -10,6 +11,7 @@ use mathlib.Core.List.{List}
 use Prim.Native.Nat.{ℕ, zero, suc, ◌+◌, ◌-◌, ◌*◌, ◌≤◌, ◌<◌, min}
 use native.Mathlib.Nat.{lt_of_le_of_lt}
 use native.Mathlib.Omega.{arith}
+use Rattle.std.proofs.Common.{Fits, w64}
 use lib.Dec.{T, eqb}
 use lib.ListN.{length, get_or}
 use lib.Bits.{bit_and, bit_or, and_mask, and_le_l}
@@ -52,6 +54,11 @@ pub record WordPlanes (w : ℕ) (v u : List ℕ) : Type 0 where
   pub value-plane : Plane w v
   pub unknown-plane : Plane w u
   pub words : Words64 (lent v u)
+
+-- what a function knows of planes that were lent to it
+pub lent-planes : {w : ℕ} {v u : List ℕ} → Plane w v → Plane w u → ((k : ℕ) → Fits w64 (get_or v k 0)) → ((k : ℕ) → Fits w64 (get_or u k 0)) → WordPlanes w v u
+lent-planes p q f g =
+    record { value-plane = p; unknown-plane = q; words = record { value-words = λ k. (f k).fits; unknown-words = λ k. (g k).fits } }
 
 abbrev pub unknown_at : List LogicBit → ℕ → Bool
 unknown_at bs i = is_unknown (at bs i)

@@ -18,8 +18,7 @@ pub fn truth(width: u32, value: &[u64], unknown: &[u64]) -> Truth
     ensures value_2 { result ≡ truth_of (from_planes width value.now unknown.now) }
 {
     let mut seen = 0;
-    let mut k = 0;
-    while k < value.len() {
+    for k in 0..value.len() {
         let a = Word {
             value: value[k],
             unknown: unknown[k],
@@ -28,8 +27,7 @@ pub fn truth(width: u32, value: &[u64], unknown: &[u64]) -> Truth
         if known_ones(a) != 0 {
             return Truth::True;
         }
-        seen = seen | u;
-        k += 1;
+        seen |= u;
     }
     if seen != 0 {
         return Truth::Unknown;
@@ -45,14 +43,12 @@ pub fn and_bits(width: u32, value: &[u64], unknown: &[u64]) -> LogicBit
 {
     let last = value.len() - 1;
     let mut seen = 0;
-    let mut k = 0;
-    while k < last {
+    for k in 0..last {
         let u = unknown[k];
         if !(value[k] | u) != 0 {
             return LogicBit::Zero;
         }
-        seen = seen | u;
-        k += 1;
+        seen |= u;
     }
     let u = unknown[last];
     let n = width as usize - last * 64;
@@ -83,14 +79,12 @@ pub fn xor_bits(width: u32, value: &[u64], unknown: &[u64]) -> LogicBit
     ensures { result ≡ reduce_xor (from_planes width value.now unknown.now) }
 {
     let mut sum = 0;
-    let mut k = 0;
-    while k < value.len() {
+    for k in 0..value.len() {
         let v = value[k];
         if unknown[k] != 0 {
             return LogicBit::X;
         }
-        sum = sum ^ v;
-        k += 1;
+        sum ^= v;
     }
     if u64::count_ones(sum) % 2 == 0 {
         LogicBit::Zero
