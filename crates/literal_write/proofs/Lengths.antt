@@ -1,16 +1,18 @@
 -- The length of a literal, and what is written by it.
 --     length-literal, length-lent     the digits of the width, what stands between, and a digit for each bit
+--     size_taken     a header that `check_size` accepts is no fill, and its width is 1 to 4,096
 --     length_taken     what `literal_length` answers where the width is 1 to 4,096 and the vector no fill
 --     length-given     where it gives a length, that is the length of the text
 --     by-length     a vector that `check_vector` accepts is written by what `literal_length` answers
 use mathlib.Core.Path.{◌≡◌, refl, ap, ◌∙◌}
-use mathlib.Core.Bool.{Bool, false, ◌&&◌, cond}
+use mathlib.Core.Bool.{Bool, true, false, not, ◌&&◌, cond}
 use mathlib.Core.List.{List, ◌++◌}
 use Prim.Native.Nat.{ℕ, ◌+◌, ◌≤◌}
 use native.Mathlib.Omega.{arith}
-use borrow.Author.Tests.{le-leb, le-ltb}
-use lib.Dec.{eqb}
+use borrow.Author.Tests.{le-leb, le-ltb, leb-true, not-true}
+use lib.Dec.{eqb, leb}
 use lib.ListN.{length, length-append}
+use Rattle.bit.proofs.Tests.{and-true}
 use Rattle.refusal.specs.Outcome.{Answer, Outcome, outcome, refuse, or_refuse, after}
 use Rattle.refusal.specs.Outcome.Answer.{given, refused}
 use Rattle.bit.specs.declared.LogicBit.{LogicBit}
@@ -34,6 +36,18 @@ unfolding literal_text
 length-lent h p = length-literal h.width h.is_signed (vector h p).bits (length-planes h.width p.value p.unknown)
 
 -- ---- what `literal_length` answers
+
+pub size_taken : (h : Header) → check_size h ≡ given tt → (h.is_fill ≡ false) × (1 ≤ h.width) × (h.width ≤ max_size)
+unfolding check_size
+size_taken h e = go (not h.is_fill && (leb 1 h.width && leb h.width max_size)) refl e
+  where
+    go : (b : Bool) → (not h.is_fill && (leb 1 h.width && leb h.width max_size)) ≡ b
+        → ◌≡◌ {A = Answer Unit} (cond b (given tt) (refused 15)) (given tt) → (h.is_fill ≡ false) × (1 ≤ h.width) × (h.width ≤ max_size)
+    go false q e = let z : ◌≡◌ {A = ℕ} 0 1 = cc in absurd (omega arith)
+    go true q e =
+        let a = and-true (not h.is_fill) (leb 1 h.width && leb h.width max_size) q in
+        let b = and-true (leb 1 h.width) (leb h.width max_size) a.1 in
+        (not-true _ a.0, leb-true _ _ b.0, leb-true _ _ b.1)
 
 pub length_taken : (h : Header) → h.is_fill ≡ false → 1 ≤ h.width → h.width ≤ max_size
     → literal_length h ≡ given (length (decimal h.width) + length (base_text h.is_signed) + h.width)

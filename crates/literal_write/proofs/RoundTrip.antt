@@ -2,20 +2,18 @@
 --     text-again    reading the text of a vector
 --     round_trip    as stated in specs/Write
 use mathlib.Core.Path.{◌≡◌, refl, sym, ap, ◌∙◌}
-use mathlib.Core.Bool.{Bool, true, false, not, ◌&&◌, cond}
+use mathlib.Core.Bool.{Bool, true, false, not, cond}
 use mathlib.Core.List.{List, [], ◌∷◌, ◌++◌, reverse, reverse-reverse}
 use Prim.Native.Nat.{ℕ, ◌≤◌, ◌<◌}
 use native.Mathlib.Omega.{arith}
-use borrow.Author.Tests.{le-leb, ne_eqb, leb-true, not-true}
-use lib.Dec.{eqb, leb}
+use borrow.Author.Tests.{le-leb, ne_eqb}
+use lib.Dec.{eqb}
 use lib.ListN.{length, get_or}
 use Rattle.bit.specs.declared.LogicBit.{LogicBit}
 use Rattle.bit.specs.declared.LogicBit.TheVariants.{Zero, One, X, Z}
-use Rattle.bit.proofs.Tests.{and-true}
 use Rattle.refusal.specs.Outcome.{Answer, Outcome, outcome, refuse, or_refuse, after}
 use Rattle.refusal.specs.Outcome.Answer.{given, refused}
 use Rattle.words.proofs.Planes.{eq-tabulate}
-use Rattle.value.specs.declared.Header.{Header}
 use Rattle.value.specs.Checks.{Vector, vector, check_vector}
 use Rattle.text.specs.Read.{is_digit}
 use Rattle.text.specs.Write.{decimal, bit_byte, bit_digits}
@@ -24,7 +22,7 @@ use Rattle.literal_words.specs.Digits.{max_size, is_underscore, digit_number, ra
 use Rattle.literal_read.specs.Literal.{is_size, literal, is_sign, marked, LiteralOf}
 use Rattle.literal_read.proofs.Grammar.{accepts}
 use Rattle.literal_write.specs.Write.{base_text, literal_text, check_size, literal_length, written_text, write_literal, RoundTrip}
-use Rattle.literal_write.proofs.Lengths.{length-lent, length_taken}
+use Rattle.literal_write.proofs.Lengths.{length-lent, length_taken, size_taken}
 use Rattle.literal_write.proofs.Characters.{run_of, no-underscore, bits-pass, bits-again}
 use Rattle.literal_write.proofs.Characters.{decimal-digits, decimal-some, decimal-first, decimal-again}
 
@@ -109,18 +107,6 @@ text-again x r = (accepts (literal_text x) x).1 (literal-of x r)
 
 -- ---- what the writer writes
 
-size-taken : (h : Header) → check_size h ≡ given tt → (h.is_fill ≡ false) × (1 ≤ h.width) × (h.width ≤ max_size)
-unfolding check_size
-size-taken h e = go (not h.is_fill && (leb 1 h.width && leb h.width max_size)) refl e
-  where
-    go : (b : Bool) → (not h.is_fill && (leb 1 h.width && leb h.width max_size)) ≡ b
-        → ◌≡◌ {A = Answer Unit} (cond b (given tt) (refused 15)) (given tt) → (h.is_fill ≡ false) × (1 ≤ h.width) × (h.width ≤ max_size)
-    go false q e = let z : ◌≡◌ {A = ℕ} 0 1 = cc in absurd (omega arith)
-    go true q e =
-        let a = and-true (not h.is_fill) (leb 1 h.width && leb h.width max_size) q in
-        let b = and-true (leb 1 h.width) (leb h.width max_size) a.1 in
-        (not-true _ a.0, leb-true _ _ b.0, leb-true _ _ b.1)
-
 pub round_trip : RoundTrip
 unfolding write_literal
 round_trip h p out t e = go (check_vector h p) (check_size h) refl e
@@ -143,7 +129,7 @@ round_trip h p out t e = go (check_vector h p) (check_size h) refl e
     go (refused n) b q e = absurd (none n e)
     go (given u) (refused n) q e = absurd (none n e)
     go (given u) (given v) q e =
-        let s = size-taken h q in
+        let s = size_taken h q in
         let k : w ≡ t = same (eqb (length out) (length w)) e in (
           ap literal (sym k) ∙ text-again (vector h p) (record { many = length-planes h.width p.value p.unknown; size = (s.1, s.2); plain = s.0 }),
           length_taken h s.0 s.1 s.2 ∙ ap (λ (n : ℕ). given n) (sym (length-lent h p) ∙ ap length k),

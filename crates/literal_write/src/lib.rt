@@ -6,7 +6,7 @@ ghost use Rattle.refusal.specs.Outcome.{outcome, answer};
 ghost use Rattle.words.specs.Planes.{word_count, from_planes, lent_by};
 ghost use Rattle.text.specs.Write.{decimal, bit_digits};
 ghost use Rattle.lines.specs.Buffer.{buffer, put};
-ghost use Rattle.literal_write.specs.Write.{base_text, literal_length, write_literal};
+ghost use Rattle.literal_write.specs.Write.{base_text, check_header, check_size, literal_length, write_literal};
 
 use lines::unchecked::{put_bits, put_bytes, put_number};
 use literal_words::MAX_SIZE;
@@ -51,46 +51,60 @@ fn put_literal(width: u32, is_signed: bool, value: &[u64], unknown: &[u64], text
     put_bits(text, j, width, value, unknown);
 }
 
-// How long the literal of a vector is: 1, 4, then 15 for a fill and for a width that is not 1 to 4,096.
+// Whether the width is in order, and a fill has one: 1, then 4.
+#[tactic(auto, unfolding(crate::specs::Write::check_header))]
+fn check_header(h: Header) -> Result<(), Refusal>
+    ensures { answer result ≡ check_header h }
+{
+    if MAX_WIDTH < h.width {
+        return Err(Refusal::TooWide);
+    }
+    if h.is_fill && h.width == 0 {
+        return Err(Refusal::EmptyFill);
+    }
+    Ok(())
+}
+
+// Whether a vector can be written as a literal: 15 for a fill and for a width that is not 1 to 4,096.
+#[tactic(auto, unfolding(crate::specs::Write::check_size))]
+fn check_size(h: Header) -> Result<(), Refusal>
+    ensures { answer result ≡ check_size h }
+{
+    let width = h.width;
+    if h.is_fill || width == 0 || MAX_SIZE < width {
+        return Err(Refusal::BadLiteral);
+    }
+    Ok(())
+}
+
+// How long the literal of a vector is: 1, 4, then 15 as above.
+#[tactic(auto, using(crate::proofs::Lengths::size_taken), unfolding(crate::specs::Write::literal_length))]
 pub fn literal_length(h: Header) -> Result<usize, Refusal>
     ensures { answer result ≡ literal_length h }
 {
+    check_header(h)?;
+    check_size(h)?;
     let width = h.width;
-    if MAX_WIDTH < width {
-        return Err(Refusal::TooWide);
-    }
-    if h.is_fill {
-        if width == 0 {
-            return Err(Refusal::EmptyFill);
-        }
-        return Err(Refusal::BadLiteral);
-    }
-    if width == 0 {
-        return Err(Refusal::BadLiteral);
-    }
-    if MAX_SIZE < width {
-        return Err(Refusal::BadLiteral);
-    }
     let base = if h.is_signed { 3 } else { 2 };
     Ok(digit_count(width) + base + width as usize)
 }
 
 // Writes a vector as a literal into a text that is exactly as long: 1 to 4, then 15 as above, then 5.
-pub fn write_literal(h: Header, value: &[u64], unknown: &[u64], text: &mut [u8]) -> Result<(), Refusal>
+#[tactic(auto, unfolding(crate::specs::Write::write_literal))]
+pub fn write_literal(
+    h: Header,
+    value: &[u64],
+    unknown: &[u64],
+    text: &mut [u8],
+) -> Result<(), Refusal>
     ensures { outcome (answer result) text.new
         ≡ write_literal h (lent_by value.now unknown.now) text.old }
 {
-    match check_vector(h, value, unknown) {
-        Err(r) => Err(r),
-        Ok(()) => match literal_length(h) {
-            Err(r) => Err(r),
-            Ok(n) => {
-                if text.len() != n {
-                    return Err(Refusal::OutputLength);
-                }
-                put_literal(h.width, h.is_signed, value, unknown, text);
-                Ok(())
-            }
-        },
+    check_vector(h, value, unknown)?;
+    let n = literal_length(h)?;
+    if text.len() != n {
+        return Err(Refusal::OutputLength);
     }
+    put_literal(h.width, h.is_signed, value, unknown, text);
+    Ok(())
 }
