@@ -1,12 +1,12 @@
 -- The operands that a step names.
 --     unread          what an op refuses and gives does not depend on the operands that it does not use
 --     names-within    each cell that an accepted step names is filled
---     names-tested    a step names filled cells alone where none of three tests finds another
-use mathlib.Core.Path.{◌≡◌, refl, ap, ◌∙◌}
-use mathlib.Core.Bool.{Bool, true, false, not, ◌&&◌, ◌||◌, cond}
+--     names-filled, names-unfilled     a step is accepted by 11 where each cell that it names is filled, and else it is not
+use mathlib.Core.Path.{◌≡◌, refl}
+use mathlib.Core.Bool.{Bool, true, false, ◌&&◌, ◌||◌, cond}
 use Prim.Native.Nat.{ℕ, ◌<◌}
-use borrow.Author.Tests.{ltb-true, leb-true, leb-false, lt-ltb, le-ltb}
-use lib.Dec.{leb, ltb}
+use borrow.Author.Tests.{ltb-true, lt-ltb}
+use lib.Dec.{ltb}
 use Rattle.bit.proofs.Tests.{and-true}
 use Rattle.value.specs.Checks.{Vector}
 use Rattle.ops.specs.declared.Step.{Step}
@@ -63,23 +63,18 @@ names-within n s h =
     let l = ltb-true s.a n q.0 in
     record { a = l; b = either-within (ltb (operands s.op) 2) s.a s.b n l q.1; c = either-within (ltb (operands s.op) 3) s.a s.c n l p.1 }
 
-either-tested : (t : Bool) (x y n : ℕ) → leb n x ≡ false → t || ltb y n ≡ not (leb n (cond t x y))
-either-tested true x y n e = simp e
-either-tested false x y n e = tested (leb n y) refl
-  where
-    tested : (z : Bool) → leb n y ≡ z → ltb y n ≡ not z
-    tested true e = le-ltb y n (leb-true n y e)
-    tested false e = lt-ltb y n (leb-false n y e)
+-- and the step is accepted where each is
+either-filled : (t : Bool) (x y n : ℕ) → cond t x y < n → t || ltb y n ≡ true
+either-filled true x y n h = refl
+either-filled false x y n h = lt-ltb y n h
 
-neither : (x y : Bool) → not x && not y ≡ not (x || y)
-neither true y = refl
-neither false y = refl
+pub names-filled : (n : ℕ) (s : Step) → NamesFilled n s → names n s ≡ true
+names-filled n s h =
+    simp (lt-ltb s.a n h.a, either-filled (ltb (operands s.op) 2) s.a s.b n h.b, either-filled (ltb (operands s.op) 3) s.a s.c n h.c)
 
-pub names-tested : (n : ℕ) (s : Step) (b : Bool) → leb n (named s).a || leb n (named s).b || leb n (named s).c ≡ b → names n s ≡ not b
-names-tested n s b e = go (leb n s.a) refl ∙ ap not e
+pub names-unfilled : (n : ℕ) (s : Step) → (NamesFilled n s → ⊥) → names n s ≡ false
+names-unfilled n s h = go (names n s) refl
   where
-    go : (z : Bool) → leb n s.a ≡ z → names n s ≡ not (leb n (named s).a || leb n (named s).b || leb n (named s).c)
-    go true ea = simp (ea, le-ltb s.a n (leb-true n s.a ea))
-    go false ea =
-        simp (ea, lt-ltb s.a n (leb-false n s.a ea), either-tested (ltb (operands s.op) 2) s.a s.b n ea, either-tested (ltb (operands s.op) 3) s.a s.c n ea)
-        (neither (leb n (named s).b) (leb n (named s).c))
+    go : (b : Bool) → names n s ≡ b → b ≡ false
+    go true e = absurd (h (names-within n s e))
+    go false e = refl

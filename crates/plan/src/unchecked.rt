@@ -2,7 +2,7 @@
 ghost use Rattle.std.specs.Prelude.{◌≡◌, ◌≤◌};
 ghost use Rattle.refusal.specs.Outcome.{after, answer};
 ghost use Rattle.refusal.specs.Outcome.Answer.{given};
-ghost use Rattle.machine.specs.Machine.{words_taken, check_input_behind, check_step};
+ghost use Rattle.machine.specs.Machine.{words_taken, check_count, check_input_behind, check_step};
 ghost use Rattle.cells.specs.Places.{headers_by};
 ghost use Rattle.plan.specs.Planned.{named, planned};
 
@@ -38,6 +38,16 @@ fn named(step: Step) -> Step
     }
 }
 
+// Whether there is a place behind `count` cells, or 12.
+fn check_count(count: usize) -> Result<(), Refusal>
+    ensures { answer result ≡ check_count count }
+{
+    if 320 <= count {
+        return Err(Refusal::StoreFull);
+    }
+    Ok(())
+}
+
 // Where an input's cell begins, or its refusal: 12, what the check of its vector says, then 13.
 pub fn plan_input(
     count: usize,
@@ -50,9 +60,7 @@ pub fn plan_input(
     ensures { answer result
         ≡ after (check_input_behind room count next (answer checked) width) (given next) }
 {
-    if 320 <= count {
-        return Err(Refusal::StoreFull);
-    }
+    check_count(count)?;
     checked?;
     if room.arena - next < word_count(width) {
         return Err(Refusal::NoRoom);
@@ -75,14 +83,12 @@ pub fn plan_step<'a>(
         ≡ after (check_step room (headers_by count widths.now signs.now fills.now) step)
         (given (planned (headers_by count widths.now signs.now fills.now) step)) }
 {
-    if 320 <= count {
-        return Err(Refusal::StoreFull);
-    }
+    check_count(count)?;
     let t = named(step);
     let a = t.a as usize;
     let b = t.b as usize;
     let c = t.c as usize;
-    if (count <= a) | (count <= b) | (count <= c) {
+    if count <= a || count <= b || count <= c {
         return Err(Refusal::NoSuchCell);
     }
     let x = header_at(a, widths, signs, fills);
@@ -94,7 +100,7 @@ pub fn plan_step<'a>(
     }
     let h = result_header(op, x, y, z);
     let w = word_count(h.width);
-    if (room.arena - next < w) | (room.scratch < w) {
+    if room.arena - next < w || room.scratch < w {
         return Err(Refusal::NoRoom);
     }
     Ok(PlannedStep {
