@@ -1,5 +1,7 @@
 -- `literal_write::write_literal`: the vector is accepted, its length is given, the text has that length.
-use mathlib.Core.Path.{sym, ap, ◌∙◌}
+use mathlib.Core.Path.{◌≡◌, sym, ap, ◌∙◌}
+use native.Mathlib.Omega.{arith}
+use lib.ListN.{length}
 use borrow.Author.Tests.{eq-eqb, ne_eqb}
 use Rattle.std.proofs.lemmas.Result.{err_from_is_err_and}
 use Rattle.refusal.specs.Outcome.{outcome}
@@ -24,8 +26,9 @@ pub returns-then-text-n : goal.returns-then-text-n
 returns-then-text-n c =
     let a = c.args in
     let p = lent a.value.now a.unknown.now in
+    let other : length a.text.now ≡ c.in_ok-n.n → ⊥ = omega arith in
     sym (by-length a.h p a.text.now (sym c.in_ok-check_vector.ensures) ∙ ap (by_length (literal_text (vector a.h p)) a.text.now) (sym c.in_ok-n.ensures)
-    ∙ rw (ne_eqb _ _ c.if-text-n.true))
+    ∙ rw (ne_eqb (length a.text.now) c.in_ok-n.n other))
 
 pub put_literal-requires-clause-value_len : goal.put_literal-requires-clause-value_len
 put_literal-requires-clause-value_len c =
@@ -37,13 +40,15 @@ pub put_literal-requires-clause-text_len : goal.put_literal-requires-clause-text
 unfolding literal_text
 put_literal-requires-clause-text_len c =
     let a = c.args in
-    c.if-text-n.false ∙ sym (length-given a.h (lent a.value.now a.unknown.now) _ (sym c.in_ok-n.ensures))
+    let same : length a.text.now ≡ c.in_ok-n.n = omega arith in
+    same ∙ sym (length-given a.h (lent a.value.now a.unknown.now) _ (sym c.in_ok-n.ensures))
 
 pub returns : goal.returns
 unfolding literal_text
 returns c =
     let a = c.args in
     let p = lent a.value.now a.unknown.now in
+    let same : length a.text.now ≡ c.in_ok-n.n = omega arith in
     ap (outcome (given tt)) {y = literal_text (vector a.h p)} c.put_literal.ensures
     ∙ sym (by-length a.h p a.text.now (sym c.in_ok-check_vector.ensures) ∙ ap (by_length (literal_text (vector a.h p)) a.text.now) (sym c.in_ok-n.ensures)
-    ∙ rw (eq-eqb _ _ c.if-text-n.false))
+    ∙ rw (eq-eqb (length a.text.now) c.in_ok-n.n same))
