@@ -1,27 +1,26 @@
 -- The line op= accepts the text of each op, and no other; and so does every line of a key and one of several names.
 --     name-exact, choice-exact     a line of a key and one of several names
 --     op-exact      the line op=
---     op-line       the code's answer for it, from the number of the name
---     op-got        what the reader finds, from that answer
+--     choice-none, choice-found, choice-within     what the code's answer says of such a line
 use mathlib.Core.Path.{◌≡◌, refl, sym, ap, ◌∙◌}
 use mathlib.Core.Bool.{true}
 use mathlib.Core.List.{List, [], ◌∷◌, ◌++◌, map}
-use Prim.Native.Nat.{ℕ, zero, suc, ◌-◌, ◌<◌}
+use Prim.Native.Nat.{ℕ, zero, suc, ◌≤◌, ◌<◌}
 use native.Mathlib.Omega.{arith}
 use lib.ListN.{length, drop, get_or, length-map}
-use Rattle.text.specs.Read.{Got, next, line_end}
+use Rattle.std.proofs.Common.{Option, Some, None}
+use Rattle.text.specs.Read.{next, line_end, one_of}
 use Rattle.text.specs.Read.Got.{found, broken}
-use Rattle.text.specs.Answers.{nowhere, line_in, got_at}
+use Rattle.text.specs.Answers.{line_in}
 use Rattle.text.specs.Exact.{Exact}
-use Rattle.text.proofs.Exact.{next-found, after-key, rest_of}
-use Rattle.text.proofs.Places.{got, not-got}
-use Rattle.text.proofs.Names.{distinct, name_text, one_of-exact}
+use Rattle.text.specs.declared.Line.{Line}
+use Rattle.text.proofs.Exact.{next-found, after-key}
+use Rattle.text.proofs.Places.{line-none, line-some, line-within}
+use Rattle.text.proofs.Names.{distinct, name_text, one_of-exact, keyed-names}
 use Rattle.ops.specs.declared.Op.{Op}
 use Rattle.ops.specs.declared.Op.TheVariants.{And, Or, Xor, Not, Merge, ReduceAnd, ReduceOr, ReduceXor, Equal, CaseEqual, CasezEqual, CasexEqual, WildcardEqual, LogicAnd, LogicOr, Select, Insert}
 use Rattle.steplist.specs.OpLine.{op_text, name_line, choice_line, op_key, op_line}
 use Rattle.ops.specs.Names.{all_ops}
-use Rattle.steplist.specs.Answers.{op_in}
-use Rattle.steplist.specs.declared.OpRead.{OpRead}
 
 -- ---- one of several names
 
@@ -85,17 +84,27 @@ pub op-exact : Exact op_line (λ o. op_key ++ (op_text o ++ line_end)) (λ o. Un
 unfolding op_line
 op-exact = choice-exact op_key op_text all_ops And refl op-listed
 
--- ---- the code's answer
+-- ---- the code's answer for such a line, from the number of the name
 
--- from the number of the name
-pub op-line : (s : List ℕ) (g : Got ℕ) → op_in s (next g (λ m. found (get_or all_ops m And))) ≡ record { op = get_or all_ops (line_in s g).number And; next = (line_in s g).next }
-op-line s (found m u) = refl
-op-line s broken = refl
+module _ {A : Type 0} (k : List ℕ) (name : A → List ℕ) (l : List A) (d : A) (e : distinct (map name l) ≡ true) (s : List ℕ) (at : ℕ) where
+  abbrev lines : List (List ℕ)
+  lines = map (λ n. k ++ n) (map name l)
 
--- and to what the reader finds
-pub op-got : (s : List ℕ) → length s < nowhere → (from : ℕ) (o : OpRead) → o ≡ op_in s (op_line (drop from s)) → op_line (drop from s) ≡ got_at s o.op o.next
-op-got s short from o e = go (op_line (drop from s)) (λ p u h. rest_of op-exact s from p u h) ∙ ap (λ (z : OpRead). got_at s z.op z.next) (sym e)
-  where
-    go : (g : Got Op) → ((p : Op) (u : List ℕ) → g ≡ found p u → drop (length s - length u) s ≡ u) → g ≡ got_at s (op_in s g).op (op_in s g).next
-    go (found p u) h = sym (got s short p u (h p u refl))
-    go broken h = sym (not-got s short And)
+  -- the lines of the key and a name
+  keyed : (a : Option Line) → a ≡ line_in s (one_of lines 0 (drop at s)) → a ≡ line_in s (name_line k (map name l) (drop at s))
+  unfolding name_line
+  keyed a h = h ∙ ap (line_in s) (keyed-names k (map name l) 0 (drop at s))
+
+  pub choice-none : None ≡ line_in s (one_of lines 0 (drop at s)) → choice_line k name l d (drop at s) ≡ broken
+  unfolding choice_line
+  choice-none h = rw (line-none s (name_line k (map name l) (drop at s)) (keyed None h))
+
+  module _ (x : Line) (h : Some x ≡ line_in s (one_of lines 0 (drop at s))) where
+    pub choice-found : choice_line k name l d (drop at s) ≡ found (get_or l x.number d) (drop x.next s)
+    unfolding choice_line
+    choice-found = rw (line-some (name-exact k (map name l) e) s at x (keyed (Some x) h))
+
+    pub choice-within : (x.number < length l) × (x.next ≤ length s)
+    choice-within =
+        let w = line-within (name-exact k (map name l) e) s at x (keyed (Some x) h) in
+        (rw (length-map l name) at w.0, w.1)

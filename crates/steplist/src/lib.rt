@@ -2,10 +2,12 @@
 #![tactic(auto)]
 
 ghost use Rattle.std.specs.Prelude.{◌≡◌, ◌≤◌, drop};
-ghost use Rattle.text.specs.Answers.{got_at};
+ghost use Rattle.std.specs.Result.{result_map_both};
+ghost use Rattle.refusal.specs.Outcome.{answer};
+ghost use Rattle.text.specs.Read.{many};
 ghost use Rattle.steplist.specs.OpLine.{op_line, largest as largest_of};
-ghost use Rattle.steplist.specs.Listing.{input, step, whole};
-ghost use Rattle.steplist.specs.Answers.{op_in, input_in, inputs_in, steps_in, many_at, list_answer};
+ghost use Rattle.steplist.specs.Listing.{input, step, list, whole};
+ghost use Rattle.steplist.specs.Answers.{got, input_in, inputs_in, steps_in, list_in};
 
 use ops::unchecked::op_at;
 use ops::{Op, Step, number_count};
@@ -29,45 +31,10 @@ pub struct StepList {
     pub step_count: usize,
 }
 
-// Whether a text says a list, and the list if it does.
+// A value that stands in the text, and the place behind its lines.
 #[derive(Clone, Copy)]
-pub struct ListAnswer {
-    pub verdict: Result<(), Refusal>,
-    pub list: StepList,
-}
-
-// An op and the place behind its line.
-#[derive(Clone, Copy)]
-struct OpRead {
-    op: Op,
-    next: usize,
-}
-
-// An input, and the place behind its lines.
-#[derive(Clone, Copy)]
-struct InputRead {
-    input: Input,
-    next: usize,
-}
-
-// The inputs, and the place behind them.
-#[derive(Clone, Copy)]
-struct InputsRead {
-    inputs: [Input; 64],
-    next: usize,
-}
-
-// A step, and the place behind its lines.
-#[derive(Clone, Copy)]
-struct StepRead {
-    step: Step,
-    next: usize,
-}
-
-// The steps, and the place behind them.
-#[derive(Clone, Copy)]
-struct StepsRead {
-    steps: [Step; 256],
+struct Found<T> {
+    value: T,
     next: usize,
 }
 
@@ -88,135 +55,130 @@ const NO_STEP: Step = Step {
 };
 
 // The three lines of an input.
-fn read_input(s: &[u8], at: usize) -> InputRead
-    ensures { got_at s.now (input_in s.now result.input) result.next
-        ≡ input (drop at s.now) }
+fn read_input(s: &[u8], at: usize) -> Option<Found<Input>>
+    ensures { got (input_in s.now) s.now result ≡ input (drop at s.now) }
 {
-    let width = text::number_line(s, at, b"width=", 4096);
-    let kind = one_of(s, width.next, b"kind=u\nkind=s\nkind=f\n");
-    let next = text::bits_line(s, kind.next, b"bits=", width.number);
+    let width = text::number_line(s, at, b"width=", 4096)?;
+    let kind = one_of(s, width.next, b"kind=u\nkind=s\nkind=f\n")?;
+    let next = text::bits_line(s, kind.next, b"bits=", width.number)?;
     let header = Header {
         width: width.number,
         is_signed: kind.number == 1,
         is_fill: kind.number == 2,
     };
-    InputRead {
-        input: Input {
-            header,
-            place: kind.next + 5,
-        },
+    let place = kind.next + 5;
+    Some(Found {
+        value: Input { header, place },
         next,
-    }
+    })
 }
 
 // n inputs.
-fn read_inputs(s: &[u8], at: usize, n: usize) -> InputsRead
+fn read_inputs(s: &[u8], at: usize, n: usize) -> Option<Found<[Input; 64]>>
     requires { n ≤ 64 }
-    ensures { got_at s.now (inputs_in s.now n result.inputs) result.next
-        ≡ many_at s.now input n at }
+    ensures { got (inputs_in s.now n) s.now result
+        ≡ many input n (drop at s.now) }
 {
     let mut inputs = [NO_INPUT; 64];
-    let mut i = 0;
-    let mut p = at;
-    while i < n {
-        let x = read_input(s, p);
-        let input = x.input;
-        inputs[i] = input;
-        p = x.next;
-        i += 1;
+    let mut next = at;
+    for k in 0..n {
+        let x = read_input(s, next)?;
+        inputs[k] = x.value;
+        next = x.next;
     }
-    InputsRead { inputs, next: p }
+    Some(Found {
+        value: inputs,
+        next,
+    })
 }
 
-// The line op=: the op that has the name, and the place behind the line.
-fn op_line(s: &[u8], at: usize) -> OpRead
-    ensures { result ≡ op_in s.now (op_line (drop at s.now)) }
+// The line op=: the op that has the name.
+fn op_line(s: &[u8], at: usize) -> Option<Found<Op>>
+    ensures { got (λ o. o) s.now result ≡ op_line (drop at s.now) }
 {
     let line = one_of(
         s,
         at,
         b"op=and\nop=or\nop=xor\nop=not\nop=mrg\nop=rand\nop=ror\nop=rxor\n\
         op=eq\nop=ceq\nop=cz\nop=cx\nop=weq\nop=land\nop=lor\nop=sel\nop=ins\n",
-    );
-    OpRead {
-        op: op_at(line.number as usize),
+    )?;
+    Some(Found {
+        value: op_at(line.number as usize),
         next: line.next,
-    }
+    })
 }
 
 // The largest number that the i-th of a, b and c may be, from 0: an unused one is 0.
 fn largest(op: Op, i: usize) -> u32
     ensures { result ≡ largest_of op i }
 {
-    if i < number_count(op) { 4294967295 } else { 0 }
+    if i < number_count(op) { u32::MAX } else { 0 }
 }
 
 // The four lines of a step.
-fn read_step(s: &[u8], at: usize) -> StepRead
-    ensures { got_at s.now result.step result.next ≡ step (drop at s.now) }
+fn read_step(s: &[u8], at: usize) -> Option<Found<Step>>
+    ensures { got (λ x. x) s.now result ≡ step (drop at s.now) }
 {
-    let o = op_line(s, at);
-    let op = o.op;
-    let a = text::number_line(s, o.next, b"a=", largest(op, 0));
-    let b = text::number_line(s, a.next, b"b=", largest(op, 1));
-    let c = text::number_line(s, b.next, b"c=", largest(op, 2));
-    StepRead {
-        step: Step {
+    let line = op_line(s, at)?;
+    let op = line.value;
+    let a = text::number_line(s, line.next, b"a=", largest(op, 0))?;
+    let b = text::number_line(s, a.next, b"b=", largest(op, 1))?;
+    let c = text::number_line(s, b.next, b"c=", largest(op, 2))?;
+    Some(Found {
+        value: Step {
             op,
             a: a.number,
             b: b.number,
             c: c.number,
         },
         next: c.next,
-    }
+    })
 }
 
 // n steps.
-fn read_steps(s: &[u8], at: usize, n: usize) -> StepsRead
+fn read_steps(s: &[u8], at: usize, n: usize) -> Option<Found<[Step; 256]>>
     requires { n ≤ 256 }
-    ensures { got_at s.now (steps_in n result.steps) result.next
-        ≡ many_at s.now step n at }
+    ensures { got (steps_in n) s.now result ≡ many step n (drop at s.now) }
 {
     let mut steps = [NO_STEP; 256];
-    let mut i = 0;
-    let mut p = at;
-    while i < n {
-        let x = read_step(s, p);
-        let step = x.step;
-        steps[i] = step;
-        p = x.next;
-        i += 1;
+    let mut next = at;
+    for k in 0..n {
+        let x = read_step(s, next)?;
+        steps[k] = x.value;
+        next = x.next;
     }
-    StepsRead { steps, next: p }
+    Some(Found { value: steps, next })
 }
 
-// The list that a text says, or 6 if the text breaks its format or has more than 65,536 bytes.
-pub fn read_list(s: &[u8]) -> ListAnswer
-    ensures { list_answer s.now result ≡ whole s.now }
+// The lines of a list.
+fn read_lines(s: &[u8]) -> Option<Found<StepList>>
+    ensures { got (list_in s.now) s.now result ≡ list s.now }
 {
-    let n = text::number_line(s, 0, b"inputs=", 64);
-    let m = text::number_line(s, n.next, b"steps=", 256);
+    let n = text::number_line(s, 0, b"inputs=", 64)?;
+    let m = text::number_line(s, n.next, b"steps=", 256)?;
     let input_count = n.number as usize;
     let step_count = m.number as usize;
-    let a = read_inputs(s, m.next, input_count);
-    let inputs = a.inputs;
-    let b = read_steps(s, a.next, step_count);
-    let steps = b.steps;
+    let Found { value, next } = read_inputs(s, m.next, input_count)?;
+    let inputs = value;
+    let Found { value, next } = read_steps(s, next, step_count)?;
+    let steps = value;
     let list = StepList {
         inputs,
         input_count,
         steps,
         step_count,
     };
-    if (b.next == s.len()) & (s.len() <= 65536) {
-        ListAnswer {
-            verdict: Ok(()),
-            list,
-        }
-    } else {
-        ListAnswer {
-            verdict: Err(Refusal::BadFormat),
-            list,
-        }
+    Some(Found { value: list, next })
+}
+
+// The list that a text says, or 6 if the text breaks its format or has more than 65,536 bytes.
+pub fn read_list(s: &[u8]) -> Result<StepList, Refusal>
+    ensures { answer (result_map_both (list_in s.now) (λ r. r) result)
+        ≡ whole s.now }
+{
+    let list = read_lines(s).ok_or(Refusal::BadFormat)?;
+    if (list.next < s.len()) | (65536 < s.len()) {
+        return Err(Refusal::BadFormat);
     }
+    Ok(list.value)
 }

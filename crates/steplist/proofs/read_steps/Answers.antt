@@ -2,38 +2,35 @@
 use mathlib.Core.Path.{refl, sym, ap, ◌∙◌}
 use mathlib.Core.List.{List}
 use Prim.Native.Nat.{ℕ}
-use native.Mathlib.Nat.{sub-zero}
 use native.Mathlib.Omega.{arith}
-use lib.ListN.{length-set}
-use Rattle.text.specs.Answers.{got_at}
+use lib.ListN.{length-set, drop}
+use Rattle.text.specs.Read.Got.{found}
 use Rattle.ops.specs.declared.Step.{Step}
 use Rattle.steplist.specs.Listing.{step}
-use Rattle.steplist.proofs.Parts.{no-step, left-all, left-turn, left-read, first-steps}
+use Rattle.steplist.proofs.Parts.{left-broken, left-turn, left-all, first-steps}
 use Rattle.steplist.proofs.read_steps.Goals as goal
 
-pub loop-i-init : goal.loop-i-init
-loop-i-init c = let a = c.args in (omega arith, refl, rw sub-zero (left-all step a.s.now a.n a.at))
-
-pub loop-i-preserved : goal.loop-i-preserved
-loop-i-preserved c =
+pub returns-in_err-x : goal.returns-in_err-x
+returns-in_err-x c =
     let s : List ℕ = c.args.s.now in
-    let r = c.read_step-x.result in (
-      omega arith,
-      simp length-set c.loop-i.invariant.1,
-      c.loop-i.invariant.2
-          ∙ left-turn step s (λ xs. xs) (λ x. x) (λ xs x. refl) no-step c.loop-i.steps c.loop-i.i c.args.n c.loop-i.p r.next r.step (omega arith) (omega arith) c.read_step-x.ensures,
+    let l = c.loop-k in
+    rw (c.from_residual.ensures, l.invariant.1, left-broken step (λ xs. xs) (λ x. x) (λ xs x. refl) l.steps c.args.n l.k (drop l.next s) c.loop-k-test.true (sym c.in_err-x.ensures))
+
+pub loop-k-preserved : goal.loop-k-preserved
+loop-k-preserved c =
+    let s : List ℕ = c.args.s.now in
+    let l = c.loop-k in
+    let x = c.in_ok-x.x in (
+      simp length-set l.invariant.0,
+      l.invariant.1
+          ∙ left-turn step (λ xs. xs) (λ x. x) (λ xs x. refl) l.steps c.args.n l.k (drop l.next s) (drop x.next s) x.value c.loop-k-test.true (omega arith) (sym c.in_ok-x.ensures),
     )
 
 pub returns : goal.returns
 returns c =
     let s : List ℕ = c.args.s.now in
     let n : ℕ = c.args.n in
-    sym (c.loop-i.invariant.2
-    ∙ left-read step s (λ xs. xs) (λ x. x) (λ xs x. refl) c.loop-i.steps c.loop-i.i n c.loop-i.p (omega arith)
-    ∙ ap (λ (l : List Step). got_at s l c.loop-i.p) (first-steps c.loop-i.steps n (omega arith)))
-
-pub offset_bounds-steps-i : goal.offset_bounds-steps-i
-offset_bounds-steps-i c = omega arith
-
-pub bounds-steps-i : goal.bounds-steps-i
-bounds-steps-i c = omega arith
+    let l = c.loop-k in
+    sym (l.invariant.1
+    ∙ left-all step (λ xs. xs) (λ x. x) (λ xs x. refl) l.steps n l.k (drop l.next s) (omega arith)
+    ∙ ap (λ (z : List Step). found z (drop l.next s)) (first-steps l.steps n (omega arith)))
