@@ -2,7 +2,7 @@
 --     decimal-three, decimal-two        a number below 1,000 has at most three digits, one below 100 at most two
 --     number_small    a refusal's number has at most two digits
 --     bits-line       a line of bits
---     cell_room, done-room, refused-room        the lines of a cell, of the end and of a refusal
+--     cell_room, done_room, refused_room        the lines of a cell, of the end and of a refusal
 use mathlib.Core.Path.{◌≡◌, ap}
 use mathlib.Core.List.{List, ◌++◌, reverse}
 use mathlib.Core.Logic.{◌⊎◌, inl, inr}
@@ -60,11 +60,11 @@ pub cell_room : (n : ℕ) (bs : List LogicBit) → n < 1000 → length (cell_tex
 unfolding cell_text
 cell_room n bs h = omega (arith, length-append (cell_key ++ number_text n) (bits_key ++ bits_text bs), length-line cell_key n, decimal-three n h, bits-line bs)
 
-pub done-room : (k : ℕ) → k < 1000 → length (done_text k) ≤ 9
+pub done_room : (k : ℕ) → k < 1000 → length (done_text k) ≤ 9
 unfolding done_text
-done-room k h = omega (arith, length-line done_key k, decimal-three k h)
+done_room k h = omega (arith, length-line done_key k, decimal-three k h)
 
-pub refused-room : (n k : ℕ) → n < 100 → k < 1000 → length (refused_text n k) ≤ 20
+pub refused_room : (n k : ℕ) → n < 100 → k < 1000 → length (refused_text n k) ≤ 20
 unfolding refused_text
-refused-room n k h j =
+refused_room n k h j =
     omega (arith, length-append (refused_key ++ number_text n) (step_key ++ number_text k), length-line refused_key n, length-line step_key k, decimal-two n h, decimal-three k j)

@@ -24,10 +24,11 @@ pub fn put_step(
 {
     let i = put_number_line(out, at, b"cell=", n);
     let k = word_count(h.width);
-    put_bits_line(out, i, b"bits=", h.width, &value[0..k], &unknown[0..k])
+    put_bits_line(out, i, b"bits=", h.width, &value[..k], &unknown[..k])
 }
 
 // The line behind the last step: how many were run.
+#[tactic(auto, using(crate::proofs::Room::done_room), unfolding(crate::specs::Output::done_text))]
 pub fn put_done(out: &mut [u8], at: usize, k: u32) -> usize
     requires { (k < 1000) × (at + 9 ≤ length out.old) }
     ensures { buffer out.new result ≡ put (buffer out.old at) (done_text k) }

@@ -1,8 +1,7 @@
 -- `run_lines::unchecked::put_step`: the line of the number, and the line of the bits behind it, from the front of the planes.
-use mathlib.Core.Path.{◌≡◌, ap, ◌∙◌}
+use mathlib.Core.Path.{ap, ◌∙◌}
 use mathlib.Core.List.{List, ◌++◌}
-use Prim.Native.Nat.{ℕ, ◌-◌}
-use native.Mathlib.Nat.{sub-zero}
+use Prim.Native.Nat.{ℕ}
 use native.Mathlib.Omega.{arith}
 use lib.ListN.{take}
 use Rattle.text.specs.Read.{bits_key}
@@ -35,8 +34,7 @@ unfolding cell_text
 returns c =
     let a = c.args in
     let p = c.put_number_line-i in
-    let is : c.word_count-k.result - 0 ≡ word_count a.h.width = sub-zero c.word_count-k.result ∙ c.word_count-k.ensures in
     let line : ℕ → List ℕ = λ m. bits_key ++ bits_text (from_planes a.h.width (take m a.value.now) (take m a.unknown.now)) in
     after a.out.now a.at (cell_key ++ number_text a.n) (line (word_count a.h.width)) p.ensures
-    (c.put_bits_line.ensures ∙ ap (λ m. put (buffer p.new.out p.result) (line m)) is)
+    (c.put_bits_line.ensures ∙ ap (λ m. put (buffer p.new.out p.result) (line m)) c.word_count-k.ensures)
     (omega (arith, c.requires.n_bound.1))
