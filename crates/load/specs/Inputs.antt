@@ -1,5 +1,7 @@
 -- Document 01, "Step list": the inputs of a list, added one behind the other. The text is read whole before.
-use Rattle.std.specs.Prelude.{List, [], ◌∷◌, ℕ}
+use Rattle.std.specs.Prelude.{List, [], ◌∷◌, ℕ, Result, Ok, Err}
+use Rattle.refusal.specs.declared.Refusal.{Refusal}
+use Rattle.refusal.specs.Refusals.{refusal_number}
 use Rattle.refusal.specs.Outcome.{Answer, Outcome, outcome, refuse}
 use Rattle.refusal.specs.Outcome.Answer.{given, refused}
 use Rattle.words.specs.Planes.{planes_of}
@@ -26,3 +28,9 @@ add_inputs s (v ∷ vs) =
 abbrev pub load_list : State → Answer StepList → Outcome Unit State
 load_list s (given l) = add_inputs s l.inputs
 load_list s (refused n) = refuse n s
+
+module _ {A : Type 0} where
+  -- whether a result was given, and what refused it if not
+  abbrev pub verdict : Result A Refusal → Answer Unit
+  verdict (Ok a) = given tt
+  verdict (Err r) = refused (refusal_number r)

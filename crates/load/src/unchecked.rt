@@ -1,14 +1,14 @@
 // One input of a list, and all of them, put into the first cells. These ask their caller for a list that was read from the text.
-ghost use Rattle.std.specs.Prelude.{◌≡◌, ◌≤◌, length};
+ghost use Rattle.std.specs.Prelude.{◌≡◌, ◌≤◌, length, IfOk};
 ghost use Rattle.refusal.specs.Outcome.{outcome, answer};
 ghost use Rattle.words.specs.Planes.{lent_by, planes_of};
 ghost use Rattle.store.specs.Store.{state_by, store_of, empty_store};
 ghost use Rattle.store.specs.Taken.{take_input};
 ghost use Rattle.steplist.specs.Answers.{input_in, list_in};
-ghost use Rattle.load.specs.Inputs.{add_inputs};
+ghost use Rattle.load.specs.Inputs.{verdict, add_inputs};
 ghost use Rattle.load.specs.Limits.{Fitted, InputReadable, InputsReadable};
 
-use crate::Inputs;
+use crate::{Inputs, Loaded};
 use cells::no_fields;
 use refusal::Refusal;
 use steplist::{Input, StepList};
@@ -39,32 +39,37 @@ fn load_input(
 }
 
 // Puts the inputs of the list into the first cells, up to the first that is refused.
-pub fn load_inputs(list: StepList, text: &[u8], av: &mut [u64], au: &mut [u64]) -> Inputs
+pub fn load_inputs(list: StepList, text: &[u8], av: &mut [u64], au: &mut [u64]) -> Loaded
     requires { InputsReadable text.now list }
-    ensures au_value { outcome (answer result.verdict) (state_by (store_of result.count result.fields) av.new au.new)
+    ensures au_value { outcome (verdict result.list)
+        (state_by (store_of result.inputs.count result.inputs.fields) av.new au.new)
         ≡ add_inputs (state_by empty_store av.old au.old) (list_in text.now list).inputs }
-    ensures fitted { Fitted result.fields result.count result.next (lent_by av.new au.new) }
+    ensures same_list { IfOk result.list (λ l. l ≡ list) }
+    ensures fitted { Fitted result.inputs.fields result.inputs.count result.inputs.next (lent_by av.new au.new) }
 {
     let mut f = no_fields();
     let mut next = 0;
-    let mut i = 0;
     if (0 < list.input_count) & (av.len() != au.len()) {
-        return Inputs {
-            verdict: Err(Refusal::BadStore),
-            fields: f,
-            count: 0,
-            next: 0,
+        return Loaded {
+            list: Err(Refusal::BadStore),
+            inputs: Inputs {
+                fields: f,
+                count: 0,
+                next,
+            },
         };
     }
-    while i < list.input_count {
+    for i in 0..list.input_count {
         let x = list.inputs[i];
         match load_input(x, i, next, text, av, au) {
             Err(r) => {
-                return Inputs {
-                    verdict: Err(r),
-                    fields: f,
-                    count: i,
-                    next: next,
+                return Loaded {
+                    list: Err(r),
+                    inputs: Inputs {
+                        fields: f,
+                        count: i,
+                        next,
+                    },
                 };
             }
             Ok(at) => {
@@ -76,12 +81,13 @@ pub fn load_inputs(list: StepList, text: &[u8], av: &mut [u64], au: &mut [u64]) 
                 next = at + word_count(h.width);
             }
         }
-        i += 1;
     }
-    Inputs {
-        verdict: Ok(()),
-        fields: f,
-        count: i,
-        next: next,
+    Loaded {
+        list: Ok(list),
+        inputs: Inputs {
+            fields: f,
+            count: list.input_count,
+            next,
+        },
     }
 }
