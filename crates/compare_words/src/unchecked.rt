@@ -77,22 +77,19 @@ fn pass_same(av: &[u64], au: &[u64], bv: &[u64], bu: &[u64], n: usize) -> usize
     ensures { (result ≤ n)
         × ((i : ℕ) → i < result → unlike av.now au.now bv.now bu.now i ≡ 0) }
 {
-    let mut k = 0;
-    while 8 <= n - k {
+    for block in 0..n / 8 {
+        let k = block * 8;
         let mut marks = 0;
-        let mut j = 0;
-        while j < 8 {
+        for j in 0..8 {
             let i = k + j;
             let m = (av[i] ^ bv[i]) | au[i] | bu[i];
-            marks = marks | m;
-            j += 1;
+            marks |= m;
         }
         if marks != 0 {
             return k;
         }
-        k += 8;
     }
-    k
+    n / 8 * 8
 }
 
 // The places of word k of two operands that lie below the width. The first n words are whole in both and are read straight from the
@@ -143,6 +140,7 @@ fn marks_at(
 // Scans two operands whose fills are settled, each read by its extent, at the width. The words are scanned from the first that was not
 // passed over, the bits of a word's mismatches from the lowest, and the scan is left at the first mismatch. All places that leave the
 // answer open go into `doubt`, which is enough for the bit; those of the first word that has one, word `at`, are `first`.
+// Document 01 names this form: nested loops, words outside and bits inside, left by the outer one's label.
 pub fn scan_extents(
     op: Comparison,
     a: Extent,
@@ -163,34 +161,31 @@ pub fn scan_extents(
     let mut doubt = 0;
     let mut first = 0;
     let mut at = 0;
-    let mut j = 0;
-    let mut k = pass_same(av, au, bv, bu, n);
-    'words: loop {
-        if count <= k {
-            return if doubt == 0 {
-                Found::Same
-            } else {
-                Found::Unsure((at * 64) as u32 + u64::trailing_zeros(first))
-            };
-        }
+    let mut mismatch = None;
+    'words: for k in pass_same(av, au, bv, bu, n)..count {
         let m = marks_at(op, a, av, au, b, bv, bu, width, n, k);
+        // A while: it ends with the word's last mismatch, not at a count.
         let mut bits = m.apart;
-        j = 0;
+        let mut j = 0;
         while bits != 0 {
             if bits % 2 == 1 {
+                mismatch = Some((k * 64 + j) as u32);
                 break 'words;
             }
-            bits = bits / 2;
+            bits /= 2;
             j += 1;
         }
         if doubt == 0 {
             first = m.doubt;
             at = k;
         }
-        doubt = doubt | m.doubt;
-        k += 1;
+        doubt |= m.doubt;
     }
-    Found::Mismatch((k * 64 + j) as u32)
+    match mismatch {
+        Some(i) => Found::Mismatch(i),
+        None if doubt == 0 => Found::Same,
+        None => Found::Unsure((at * 64) as u32 + u64::trailing_zeros(first)),
+    }
 }
 
 // Scans two accepted vectors: their fills are settled, by the extent at which each is read.
