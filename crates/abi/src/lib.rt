@@ -8,9 +8,12 @@ ghost use Rattle.refusal.specs.Outcome.Answer.{given};
 ghost use Rattle.abi.specs.Coded.{coded_done, coded_bit, coded_word, coded_header, coded_change, coded_truth, coded_length, operand_of};
 ghost use Rattle.abi.specs.Coded.{coded_decision};
 
-use refusal::Refusal;
+use bit::LogicBit;
 use decide::{Decision, Rule};
+use reduce_words::Truth;
+use refusal::Refusal;
 use value::{Header, Operand};
+use words::Word;
 
 #[repr(C)]
 #[derive(Clone, Copy)]
@@ -52,7 +55,7 @@ pub struct DecisionResult {
     pub place: u32,
 }
 
-// 0 where the call was done.
+// 0 where the call was done. No `From`: neither type is this crate's.
 pub fn done(v: Result<(), Refusal>) -> u8
     ensures { result ≡ coded_done (answer v) }
 {
@@ -63,174 +66,153 @@ pub fn done(v: Result<(), Refusal>) -> u8
 }
 
 // A bit by its code.
-pub fn bit_result(a: Result<LogicBit, Refusal>) -> BitResult
-    ensures { result ≡ coded_bit (answer a) }
-{
-    match a {
-        Ok(b) => BitResult {
-            refusal: 0,
-            bit: u8::from(b),
-        },
-        Err(r) => BitResult {
-            refusal: u8::from(r),
-            bit: 0,
-        },
+impl From<Result<LogicBit, Refusal>> for BitResult {
+    ghost from_gives = { λ a r. r ≡ coded_bit (answer a) };
+
+    fn from(a: Result<LogicBit, Refusal>) -> BitResult {
+        match a {
+            Ok(b) => BitResult {
+                refusal: 0,
+                bit: u8::from(b),
+            },
+            Err(r) => BitResult {
+                refusal: u8::from(r),
+                bit: 0,
+            },
+        }
     }
 }
 
 // A word of both planes.
-pub fn word_result(a: Result<Word, Refusal>) -> WordResult
-    ensures { result ≡ coded_word (answer a) }
-{
-    match a {
-        Ok(w) => WordResult {
-            refusal: 0,
-            value: w.value,
-            unknown: w.unknown,
-        },
-        Err(r) => WordResult {
-            refusal: u8::from(r),
-            value: 0,
-            unknown: 0,
-        },
+impl From<Result<Word, Refusal>> for WordResult {
+    ghost from_gives = { λ a r. r ≡ coded_word (answer a) };
+
+    fn from(a: Result<Word, Refusal>) -> WordResult {
+        match a {
+            Ok(w) => WordResult {
+                refusal: 0,
+                value: w.value,
+                unknown: w.unknown,
+            },
+            Err(r) => WordResult {
+                refusal: u8::from(r),
+                value: 0,
+                unknown: 0,
+            },
+        }
     }
 }
 
-// The header of a vector that was written.
-pub fn header_result(a: Result<Header, Refusal>) -> HeaderResult
-    ensures { result ≡ coded_header (answer a) }
-{
-    match a {
-        Ok(h) => HeaderResult {
-            refusal: 0,
-            width: h.width,
-            is_signed: h.is_signed,
-            is_fill: h.is_fill,
-        },
-        Err(r) => HeaderResult {
-            refusal: u8::from(r),
-            width: 0,
-            is_signed: false,
-            is_fill: false,
-        },
+// The header of a vector that was written, or of a literal's vector.
+impl From<Result<Header, Refusal>> for HeaderResult {
+    ghost from_gives = { λ a r. r ≡ coded_header (answer a) };
+
+    fn from(a: Result<Header, Refusal>) -> HeaderResult {
+        match a {
+            Ok(h) => HeaderResult {
+                refusal: 0,
+                width: h.width,
+                is_signed: h.is_signed,
+                is_fill: h.is_fill,
+            },
+            Err(r) => HeaderResult {
+                refusal: u8::from(r),
+                width: 0,
+                is_signed: false,
+                is_fill: false,
+            },
+        }
     }
 }
 
 // Whether an insert changed a bit: 0 is no, 1 is yes.
-pub fn change_result(a: Result<bool, Refusal>) -> BitResult
-    ensures { result ≡ coded_change (answer a) }
-{
-    match a {
-        Ok(c) => BitResult {
-            refusal: 0,
-            bit: c as u8,
-        },
-        Err(r) => BitResult {
-            refusal: u8::from(r),
-            bit: 0,
-        },
+impl From<Result<bool, Refusal>> for BitResult {
+    ghost from_gives = { λ a r. r ≡ coded_change (answer a) };
+
+    fn from(a: Result<bool, Refusal>) -> BitResult {
+        match a {
+            Ok(c) => BitResult {
+                refusal: 0,
+                bit: c as u8,
+            },
+            Err(r) => BitResult {
+                refusal: u8::from(r),
+                bit: 0,
+            },
+        }
     }
 }
 
 // A truth by the code of its bit.
-pub fn truth_result(a: Result<Truth, Refusal>) -> BitResult
-    ensures { result ≡ coded_truth (answer a) }
-{
-    match a {
-        Ok(t) => BitResult {
-            refusal: 0,
-            bit: u8::from(LogicBit::from(t)),
-        },
-        Err(r) => BitResult {
-            refusal: u8::from(r),
-            bit: 0,
-        },
+impl From<Result<Truth, Refusal>> for BitResult {
+    ghost from_gives = { λ a r. r ≡ coded_truth (answer a) };
+
+    fn from(a: Result<Truth, Refusal>) -> BitResult {
+        match a {
+            Ok(t) => BitResult {
+                refusal: 0,
+                bit: u8::from(LogicBit::from(t)),
+            },
+            Err(r) => BitResult {
+                refusal: u8::from(r),
+                bit: 0,
+            },
+        }
     }
 }
 
-// A bit by its code, and the rule that decided it.
-fn decided(d: Decision) -> DecisionResult
-    ensures { result ≡ coded_decision (given d) }
-{
-    let b = d.bit;
-    let bit = u8::from(b);
-    let rule = d.rule;
-    match rule {
-        Rule::KnownMismatch(i) => DecisionResult {
+// A bit by its code, and the number and place of the rule that decided it.
+impl From<Decision> for DecisionResult {
+    ghost from_gives = { λ d r. r ≡ coded_decision (given d) };
+
+    fn from(d: Decision) -> DecisionResult {
+        let (rule, place) = match d.rule {
+            Rule::KnownMismatch(i) => (1, i),
+            Rule::Unknown(i) => (2, i),
+            Rule::AllEqual => (3, 0),
+            Rule::Numeric => (4, 0),
+        };
+        DecisionResult {
             refusal: 0,
-            bit: bit,
-            rule: 1,
-            place: i,
-        },
-        Rule::Unknown(i) => DecisionResult {
-            refusal: 0,
-            bit: bit,
-            rule: 2,
-            place: i,
-        },
-        Rule::AllEqual => DecisionResult {
-            refusal: 0,
-            bit: bit,
-            rule: 3,
-            place: 0,
-        },
-        Rule::Numeric => DecisionResult {
-            refusal: 0,
-            bit: bit,
-            rule: 4,
-            place: 0,
-        },
+            bit: u8::from(d.bit),
+            rule: rule,
+            place: place,
+        }
     }
 }
 
 // A decision by its bit and rule.
-pub fn decision_result(a: Result<Decision, Refusal>) -> DecisionResult
-    ensures { result ≡ coded_decision (answer a) }
-{
-    match a {
-        Ok(d) => decided(d),
-        Err(r) => DecisionResult {
-            refusal: u8::from(r),
-            bit: 0,
-            rule: 0,
-            place: 0,
-        },
-    }
-}
+impl From<Result<Decision, Refusal>> for DecisionResult {
+    ghost from_gives = { λ a r. r ≡ coded_decision (answer a) };
 
-// The header of a literal's vector.
-pub fn literal_header_result(a: Result<Header, Refusal>) -> HeaderResult
-    ensures { result ≡ coded_header (answer a) }
-{
-    match a {
-        Ok(h) => header_result(Ok(h)),
-        Err(r) => header_result(Err(r)),
+    fn from(a: Result<Decision, Refusal>) -> DecisionResult {
+        match a {
+            Ok(d) => DecisionResult::from(d),
+            Err(r) => DecisionResult {
+                refusal: u8::from(r),
+                bit: 0,
+                rule: 0,
+                place: 0,
+            },
+        }
     }
 }
 
 // The length of a literal.
-pub fn length_result(a: Result<usize, Refusal>) -> LengthResult
-    ensures { result ≡ coded_length (answer a) }
-{
-    match a {
-        Ok(n) => LengthResult {
-            refusal: 0,
-            length: n,
-        },
-        Err(r) => LengthResult {
-            refusal: u8::from(r),
-            length: 0,
-        },
-    }
-}
+impl From<Result<usize, Refusal>> for LengthResult {
+    ghost from_gives = { λ a r. r ≡ coded_length (answer a) };
 
-// 0 where a text was written.
-pub fn text_done(a: Result<(), Refusal>) -> u8
-    ensures { result ≡ coded_done (answer a) }
-{
-    match a {
-        Ok(()) => 0,
-        Err(r) => u8::from(r),
+    fn from(a: Result<usize, Refusal>) -> LengthResult {
+        match a {
+            Ok(n) => LengthResult {
+                refusal: 0,
+                length: n,
+            },
+            Err(r) => LengthResult {
+                refusal: u8::from(r),
+                length: 0,
+            },
+        }
     }
 }
 
