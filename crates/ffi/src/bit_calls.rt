@@ -7,7 +7,8 @@ ghost use Rattle.value.specs.Checks.{check_vector};
 ghost use Rattle.constructors.specs.Constructors.{new_vector, zero_vector, from_u64};
 ghost use Rattle.abi.specs.Coded.{coded_done, coded_bit, coded_word, coded_header, coded, coded_outcome};
 
-use abi::{BitResult, HeaderResult, WordResult, bit_result, done, header_result, word_result};
+use abi::{BitResult, HeaderResult, WordResult, done};
+use bit::LogicBit;
 use value::Header;
 use words::Word;
 
@@ -16,7 +17,7 @@ use words::Word;
 pub extern "C" fn vowherunga_get(width: u32, value: &[u64], unknown: &[u64], i: usize) -> BitResult
     ensures { result ≡ coded_bit (get_bit width (lent_by value.now unknown.now) i) }
 {
-    bit_result(planes::get(width, value, unknown, i))
+    BitResult::from(planes::get(width, value, unknown, i))
 }
 
 // `planes::set`, the bit by its code modulo 4
@@ -68,7 +69,7 @@ pub extern "C" fn vowherunga_extract64(
 ) -> WordResult
     ensures { result ≡ coded_word (extract_bits width (lent_by value.now unknown.now) pos n) }
 {
-    word_result(planes::extract64(width, value, unknown, pos, n))
+    WordResult::from(planes::extract64(width, value, unknown, pos, n))
 }
 
 // `planes::mask_top`
@@ -94,7 +95,7 @@ pub extern "C" fn vowherunga_new(width: u32, value: &mut [u64], unknown: &mut [u
     ensures { coded result (lent_by value.new unknown.new)
         ≡ coded_outcome coded_header (new_vector width (lent_by value.old unknown.old)) }
 {
-    header_result(constructors::new(width, value, unknown))
+    HeaderResult::from(constructors::new(width, value, unknown))
 }
 
 // `constructors::zero`
@@ -107,7 +108,7 @@ pub extern "C" fn vowherunga_zero(
     ensures { coded result (lent_by value.new unknown.new)
         ≡ coded_outcome coded_header (zero_vector width (lent_by value.old unknown.old)) }
 {
-    header_result(constructors::zero(width, value, unknown))
+    HeaderResult::from(constructors::zero(width, value, unknown))
 }
 
 // `constructors::from_u64`
@@ -121,5 +122,5 @@ pub extern "C" fn vowherunga_from_u64(
     ensures { coded result (lent_by value.new unknown.new)
         ≡ coded_outcome coded_header (from_u64 val width (lent_by value.old unknown.old)) }
 {
-    header_result(constructors::from_u64(val, width, value, unknown))
+    HeaderResult::from(constructors::from_u64(val, width, value, unknown))
 }

@@ -7,7 +7,7 @@ ghost use Rattle.insert.specs.Insert.{insert_bits};
 ghost use Rattle.real.specs.Round.{from_real};
 ghost use Rattle.abi.specs.Coded.{coded_header, coded_change, coded, coded_outcome};
 
-use abi::{BitResult, HeaderResult, change_result, header_result};
+use abi::{BitResult, HeaderResult};
 use value::Header;
 use words::Word;
 
@@ -27,7 +27,7 @@ pub extern "C" fn vowherunga_bitwise_and(
         ≡ coded_outcome coded_header
         (join_vectors And a (lent_by av.now au.now) b (lent_by bv.now bu.now) (lent_by ov.old ou.old)) }
 {
-    header_result(bitwise::bitwise_and(a, av, au, b, bv, bu, ov, ou))
+    HeaderResult::from(bitwise::bitwise_and(a, av, au, b, bv, bu, ov, ou))
 }
 
 // `bitwise::bitwise_or`
@@ -46,7 +46,7 @@ pub extern "C" fn vowherunga_bitwise_or(
         ≡ coded_outcome coded_header
         (join_vectors Or a (lent_by av.now au.now) b (lent_by bv.now bu.now) (lent_by ov.old ou.old)) }
 {
-    header_result(bitwise::bitwise_or(a, av, au, b, bv, bu, ov, ou))
+    HeaderResult::from(bitwise::bitwise_or(a, av, au, b, bv, bu, ov, ou))
 }
 
 // `bitwise::bitwise_xor`
@@ -65,7 +65,7 @@ pub extern "C" fn vowherunga_bitwise_xor(
         ≡ coded_outcome coded_header
         (join_vectors Xor a (lent_by av.now au.now) b (lent_by bv.now bu.now) (lent_by ov.old ou.old)) }
 {
-    header_result(bitwise::bitwise_xor(a, av, au, b, bv, bu, ov, ou))
+    HeaderResult::from(bitwise::bitwise_xor(a, av, au, b, bv, bu, ov, ou))
 }
 
 // `bitwise::merge_unknown`
@@ -84,7 +84,7 @@ pub extern "C" fn vowherunga_merge_unknown(
         ≡ coded_outcome coded_header
         (join_vectors Merge a (lent_by av.now au.now) b (lent_by bv.now bu.now) (lent_by ov.old ou.old)) }
 {
-    header_result(bitwise::merge_unknown(a, av, au, b, bv, bu, ov, ou))
+    HeaderResult::from(bitwise::merge_unknown(a, av, au, b, bv, bu, ov, ou))
 }
 
 // `bitwise::bitwise_not`
@@ -99,7 +99,7 @@ pub extern "C" fn vowherunga_bitwise_not(
     ensures { coded result (lent_by ov.new ou.new)
         ≡ coded_outcome coded_header (bitwise_not a (lent_by av.now au.now) (lent_by ov.old ou.old)) }
 {
-    header_result(bitwise::bitwise_not(a, av, au, ov, ou))
+    HeaderResult::from(bitwise::bitwise_not(a, av, au, ov, ou))
 }
 
 // `insert::splice_bits64`: 1 where a bit changed
@@ -121,7 +121,7 @@ pub extern "C" fn vowherunga_splice_bits64(
         value: bits_value,
         unknown: bits_unknown,
     };
-    change_result(insert::splice_bits64(a, value, unknown, pos, bits, n))
+    BitResult::from(insert::splice_bits64(a, value, unknown, pos, bits, n))
 }
 
 // `real::from_real_wrapped`
@@ -135,5 +135,5 @@ pub extern "C" fn vowherunga_from_real_wrapped(
     ensures { coded result (lent_by value.new unknown.new)
         ≡ coded_outcome coded_header (from_real f width (lent_by value.old unknown.old)) }
 {
-    header_result(real::from_real_wrapped(f, width, value, unknown))
+    HeaderResult::from(real::from_real_wrapped(f, width, value, unknown))
 }
