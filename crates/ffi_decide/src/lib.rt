@@ -8,7 +8,7 @@ ghost use Rattle.words.specs.Planes.{lent_by};
 ghost use Rattle.decide.specs.Decide.{decide_equal};
 ghost use Rattle.abi.specs.Coded.{coded_decision, operand_of};
 
-use abi::{DecisionResult, decision_result, operand};
+use abi::{DecisionResult, operand};
 use value::Header;
 
 // `decide::decide_equal`
@@ -32,5 +32,5 @@ pub extern "C" fn vowherunga_decide_equal(
 {
     let x = operand(a_is_real, a, a_real);
     let y = operand(b_is_real, b, b_real);
-    decision_result(decide::decide_equal(x, av, au, y, bv, bu))
+    DecisionResult::from(decide::decide_equal(x, av, au, y, bv, bu))
 }

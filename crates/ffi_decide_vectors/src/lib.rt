@@ -7,7 +7,7 @@ ghost use Rattle.value.specs.declared.Operand.TheVariants.{Vector};
 ghost use Rattle.decide.specs.Decide.{decide_equal};
 ghost use Rattle.abi.specs.Coded.{coded_decision};
 
-use abi::{DecisionResult, decision_result};
+use abi::DecisionResult;
 use value::Header;
 
 // `decide::decide_vectors`
@@ -24,5 +24,5 @@ pub extern "C" fn vowherunga_decide_equal_vectors(
         ≡ coded_decision
         (decide_equal (Vector a) (lent_by av.now au.now) (Vector b) (lent_by bv.now bu.now)) }
 {
-    decision_result(decide::decide_vectors(a, av, au, b, bv, bu))
+    DecisionResult::from(decide::decide_vectors(a, av, au, b, bv, bu))
 }

@@ -6,7 +6,7 @@ ghost use Rattle.words.specs.Planes.{lent_by};
 ghost use Rattle.decide.specs.Decide.{decide_wildcard};
 ghost use Rattle.abi.specs.Coded.{coded_decision};
 
-use abi::{DecisionResult, decision_result};
+use abi::DecisionResult;
 use value::Header;
 
 // `decide::decide_wildcard`
@@ -22,5 +22,5 @@ pub extern "C" fn vowherunga_decide_wildcard(
     ensures { result
         ≡ coded_decision (decide_wildcard a (lent_by av.now au.now) b (lent_by bv.now bu.now)) }
 {
-    decision_result(decide::decide_wildcard(a, av, au, b, bv, bu))
+    DecisionResult::from(decide::decide_wildcard(a, av, au, b, bv, bu))
 }

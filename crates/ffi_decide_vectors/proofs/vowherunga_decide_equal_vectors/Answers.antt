@@ -1,5 +1,0 @@
--- The answer is coded by `decision_result`, and the entry ensures the rest.
-use Rattle.ffi_decide_vectors.proofs.vowherunga_decide_equal_vectors.Goals as goal
-
-pub returns : goal.returns
-returns c = rw (c.decision_result.ensures, c.decide_vectors.ensures)
