@@ -13,7 +13,7 @@ ghost use Rattle.compare_words.specs.declared.Comparison.TheVariants.{CaseEqual,
 ghost use Rattle.compare.specs.Compare.{comparison, is_equal};
 ghost use Rattle.abi.specs.Coded.{coded_bit, coded_truth, operand_of};
 
-use abi::{BitResult, bit_result, operand, truth_result};
+use abi::{BitResult, operand};
 use compare_words::Comparison;
 use value::Header;
 
@@ -22,7 +22,7 @@ use value::Header;
 pub extern "C" fn vowherunga_reduce_and(a: Header, value: &[u64], unknown: &[u64]) -> BitResult
     ensures { result ≡ coded_bit (reduction reduce_and a (lent_by value.now unknown.now)) }
 {
-    bit_result(reduce::reduce_and(a, value, unknown))
+    BitResult::from(reduce::reduce_and(a, value, unknown))
 }
 
 // `reduce::reduce_or`
@@ -30,7 +30,7 @@ pub extern "C" fn vowherunga_reduce_and(a: Header, value: &[u64], unknown: &[u64
 pub extern "C" fn vowherunga_reduce_or(a: Header, value: &[u64], unknown: &[u64]) -> BitResult
     ensures { result ≡ coded_bit (reduction reduce_or a (lent_by value.now unknown.now)) }
 {
-    bit_result(reduce::reduce_or(a, value, unknown))
+    BitResult::from(reduce::reduce_or(a, value, unknown))
 }
 
 // `reduce::reduce_xor`
@@ -38,7 +38,7 @@ pub extern "C" fn vowherunga_reduce_or(a: Header, value: &[u64], unknown: &[u64]
 pub extern "C" fn vowherunga_reduce_xor(a: Header, value: &[u64], unknown: &[u64]) -> BitResult
     ensures { result ≡ coded_bit (reduction reduce_xor a (lent_by value.now unknown.now)) }
 {
-    bit_result(reduce::reduce_xor(a, value, unknown))
+    BitResult::from(reduce::reduce_xor(a, value, unknown))
 }
 
 // `truth::is_nonzero`: 0 false, 1 true, 2 unknown
@@ -54,7 +54,7 @@ pub extern "C" fn vowherunga_is_nonzero(
         ≡ coded_truth (is_nonzero (operand_of a_is_real a a_real) (lent_by value.now unknown.now)) }
 {
     let o = operand(a_is_real, a, a_real);
-    truth_result(truth::is_nonzero(o, value, unknown))
+    BitResult::from(truth::is_nonzero(o, value, unknown))
 }
 
 // `truth::logic_and`
@@ -78,7 +78,7 @@ pub extern "C" fn vowherunga_logic_and(
 {
     let x = operand(a_is_real, a, a_real);
     let y = operand(b_is_real, b, b_real);
-    bit_result(truth::logic_and(x, av, au, y, bv, bu))
+    BitResult::from(truth::logic_and(x, av, au, y, bv, bu))
 }
 
 // `truth::logic_or`
@@ -102,7 +102,7 @@ pub extern "C" fn vowherunga_logic_or(
 {
     let x = operand(a_is_real, a, a_real);
     let y = operand(b_is_real, b, b_real);
-    bit_result(truth::logic_or(x, av, au, y, bv, bu))
+    BitResult::from(truth::logic_or(x, av, au, y, bv, bu))
 }
 
 // `compare::is_equal`
@@ -126,7 +126,7 @@ pub extern "C" fn vowherunga_is_equal(
 {
     let x = operand(a_is_real, a, a_real);
     let y = operand(b_is_real, b, b_real);
-    bit_result(compare::is_equal(x, av, au, y, bv, bu))
+    BitResult::from(compare::is_equal(x, av, au, y, bv, bu))
 }
 
 // `compare::is_equal` of two vectors
@@ -142,7 +142,7 @@ pub extern "C" fn vowherunga_equal_vectors(
     ensures { result
         ≡ coded_bit (is_equal (Vector a) (lent_by av.now au.now) (Vector b) (lent_by bv.now bu.now)) }
 {
-    bit_result(compare::compare_vectors(Comparison::Equal, a, av, au, b, bv, bu))
+    BitResult::from(compare::compare_vectors(Comparison::Equal, a, av, au, b, bv, bu))
 }
 
 // `compare::case_eq`
@@ -158,7 +158,7 @@ pub extern "C" fn vowherunga_case_eq(
     ensures { result
         ≡ coded_bit (comparison CaseEqual a (lent_by av.now au.now) b (lent_by bv.now bu.now)) }
 {
-    bit_result(compare::case_eq(a, av, au, b, bv, bu))
+    BitResult::from(compare::case_eq(a, av, au, b, bv, bu))
 }
 
 // `compare::casez_eq`
@@ -174,7 +174,7 @@ pub extern "C" fn vowherunga_casez_eq(
     ensures { result
         ≡ coded_bit (comparison CasezEqual a (lent_by av.now au.now) b (lent_by bv.now bu.now)) }
 {
-    bit_result(compare::casez_eq(a, av, au, b, bv, bu))
+    BitResult::from(compare::casez_eq(a, av, au, b, bv, bu))
 }
 
 // `compare::casex_eq`
@@ -190,7 +190,7 @@ pub extern "C" fn vowherunga_casex_eq(
     ensures { result
         ≡ coded_bit (comparison CasexEqual a (lent_by av.now au.now) b (lent_by bv.now bu.now)) }
 {
-    bit_result(compare::casex_eq(a, av, au, b, bv, bu))
+    BitResult::from(compare::casex_eq(a, av, au, b, bv, bu))
 }
 
 // `compare::wildcard_eq`
@@ -206,5 +206,5 @@ pub extern "C" fn vowherunga_wildcard_eq(
     ensures { result
         ≡ coded_bit (comparison WildcardEqual a (lent_by av.now au.now) b (lent_by bv.now bu.now)) }
 {
-    bit_result(compare::wildcard_eq(a, av, au, b, bv, bu))
+    BitResult::from(compare::wildcard_eq(a, av, au, b, bv, bu))
 }

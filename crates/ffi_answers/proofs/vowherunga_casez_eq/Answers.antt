@@ -1,7 +1,0 @@
--- The answer is coded by `bit_result`, and the entry ensures the rest.
-use mathlib.Core.Path.{ap, ◌∙◌}
-use Rattle.abi.specs.Coded.{coded_bit}
-use Rattle.ffi_answers.proofs.vowherunga_casez_eq.Goals as goal
-
-pub returns : goal.returns
-returns c = c.bit_result.ensures ∙ ap coded_bit c.casez_eq.ensures
