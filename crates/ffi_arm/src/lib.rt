@@ -17,7 +17,7 @@ pub struct ArmResult {
     pub length: usize,
 }
 
-// The truth of a bit by its code: x and z are unknown.
+// The truth of a bit by its code: x and z are unknown. No `From`: neither type is this crate's.
 fn truth_of_code(code: u8) -> Truth
     ensures { result ≡ truth_of_code code }
 {
@@ -33,11 +33,7 @@ fn truth_of_code(code: u8) -> Truth
 fn picks_second(t: Truth) -> bool
     ensures { result ≡ picks_second t }
 {
-    match t {
-        Truth::True => false,
-        Truth::False => true,
-        Truth::Unknown => false,
-    }
+    matches!(t, Truth::False)
 }
 
 // `arm::chosen_arm`
