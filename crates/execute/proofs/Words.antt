@@ -1,5 +1,6 @@
 -- The lowest place of a word, the two words of one bit, and the first word of a vector.
---     lane-bit                     a rule at the lowest place of two words
+--     lane_bit                     a rule at the lowest place of two words
+--     everywhere                   a word whose places all hold one bit
 --     value-word, unknown-word     the two words of a vector of one bit
 --     first_word                   the lowest 64 bits of a vector are its word 0
 use mathlib.Core.Path.{◌≡◌, refl, sym, ap, ◌∙◌}
@@ -17,9 +18,13 @@ use Rattle.words.proofs.Planes.{value-digit-stored, unknown-digit-stored}
 use Rattle.bits.proofs.Splice.{packed-bit}
 use Rattle.lanes.specs.Lanes.{lane_word}
 
-pub lane-bit : (f : LogicBit → LogicBit → LogicBit) (a b : Word) → bit_of (lane_word f a b) 0 ≡ f (bit_of a 0) (bit_of b 0)
+pub lane_bit : (f : LogicBit → LogicBit → LogicBit) (a b : Word) → bit_of (lane_word f a b) 0 ≡ f (bit_of a 0) (bit_of b 0)
 unfolding lane_word
-lane-bit f a b = packed-bit (λ j. f (bit_of a j) (bit_of b j)) 0 (omega arith)
+lane_bit f a b = packed-bit (λ j. f (bit_of a j) (bit_of b j)) 0 (omega arith)
+
+-- every place of a word holds the bit
+pub everywhere : (x : Word) (b : LogicBit) → x ≡ packed (λ j. b) → bit_of x 0 ≡ b
+everywhere x b e = ap (λ (x : Word). bit_of x 0) e ∙ packed-bit (λ j. b) 0 (omega arith)
 
 one_value : (b : LogicBit) → value_digit b ≡ word_of value_digit (at (b ∷ [])) 0
 unfolding pack

@@ -19,19 +19,10 @@ use plan::PlannedStep;
 use reduce_words::Truth;
 use reduce_words::unchecked::{and_bits, truth, xor_bits};
 use value::Header;
-use words::unchecked::{copy_front, filled, operand_word};
+use words::unchecked::{filled, operand_word};
 use words::{Word, word_count};
 
-// Copies the words of a plane into another of the same length.
-fn copy_words(from: &[u64], to: &mut [u64])
-    requires { length to.old ≡ length from.now }
-    ensures { to.new ≡ from.now }
-{
-    let n = to.len();
-    copy_front(to, from, n)
-}
-
-// A word that holds a truth as a bit, at its lowest place.
+// A word that holds a truth as a bit, at its lowest place: no `From`, since both types are of crates below.
 fn truth_word(t: Truth) -> Word
     ensures { bit_of result 0 ≡ truth_bit t }
 {
@@ -52,6 +43,7 @@ fn truth_word(t: Truth) -> Word
 }
 
 // A word that holds the bit that is the answer, at its lowest place.
+#[tactic(auto, using(crate::proofs::Words::lane_bit))]
 fn answer(q: Question, a: Header, av: &[u64], au: &[u64], b: Header, bv: &[u64], bu: &[u64]) -> Word
     requires plane { Plane a.width av.now × Plane a.width au.now }
     requires plane_2 { Plane b.width bv.now × Plane b.width bu.now }
@@ -117,20 +109,20 @@ fn work(
         }
         Family::Select => match truth(a.width, av, au) {
             Truth::True => {
-                copy_words(bv, ov);
-                copy_words(bu, ou)
+                ov.copy_from_slice(bv);
+                ou.copy_from_slice(bu);
             }
             Truth::False => {
-                copy_words(cv, ov);
-                copy_words(cu, ou)
+                ov.copy_from_slice(cv);
+                ou.copy_from_slice(cu);
             }
             Truth::Unknown => join_planes(Bitwise::Merge, b, bv, bu, c, cv, cu, b.width, ov, ou),
         },
         Family::Insert => {
             let n = b.width as usize;
             let bits = operand_word(bv, bu, b.width, 0, LogicBit::Zero);
-            copy_words(av, ov);
-            copy_words(au, ou);
+            ov.copy_from_slice(av);
+            ou.copy_from_slice(au);
             bits::unchecked::splice64(a.width, ov, ou, pos, bits, n)
         }
     }
@@ -177,8 +169,8 @@ fn work_cells(
         zv,
         zu,
         pos,
-        &mut ov[0..n],
-        &mut ou[0..n],
+        &mut ov[..n],
+        &mut ou[..n],
     );
 }
 
