@@ -8,9 +8,7 @@ ghost use Rattle.literal_read.specs.Literal.{literal_header, read_literal};
 ghost use Rattle.literal_write.specs.Write.{literal_length, write_literal};
 ghost use Rattle.abi.specs.Coded.{coded_done, coded_header, coded_length, coded, coded_outcome};
 
-use abi::{
-    HeaderResult, LengthResult, header_result, length_result, literal_header_result, text_done,
-};
+use abi::{HeaderResult, LengthResult, done};
 use value::Header;
 
 // `literal_read::literal_header`
@@ -18,7 +16,7 @@ use value::Header;
 pub extern "C" fn vowherunga_literal_header(text: &[u8]) -> HeaderResult
     ensures { result ≡ coded_header (literal_header text.now) }
 {
-    literal_header_result(literal_read::literal_header(text))
+    HeaderResult::from(literal_read::literal_header(text))
 }
 
 // `literal_read::read_literal`
@@ -31,7 +29,7 @@ pub extern "C" fn vowherunga_read_literal(
     ensures { coded result (lent_by ov.new ou.new)
         ≡ coded_outcome coded_header (read_literal text.now (lent_by ov.old ou.old)) }
 {
-    header_result(literal_read::read_literal(text, ov, ou))
+    HeaderResult::from(literal_read::read_literal(text, ov, ou))
 }
 
 // `literal_write::literal_length`
@@ -39,7 +37,7 @@ pub extern "C" fn vowherunga_read_literal(
 pub extern "C" fn vowherunga_literal_length(h: Header) -> LengthResult
     ensures { result ≡ coded_length (literal_length h) }
 {
-    length_result(literal_write::literal_length(h))
+    LengthResult::from(literal_write::literal_length(h))
 }
 
 // `literal_write::write_literal`
@@ -53,5 +51,5 @@ pub extern "C" fn vowherunga_write_literal(
     ensures { coded result text.new
         ≡ coded_outcome coded_done (write_literal h (lent_by value.now unknown.now) text.old) }
 {
-    text_done(literal_write::write_literal(h, value, unknown, text))
+    done(literal_write::write_literal(h, value, unknown, text))
 }
