@@ -31,22 +31,19 @@ pub fn answers(f: Field, refusal: u8, same: bool) -> bool
     ensures { result ≡ answered f refusal same }
 {
     if refusal == 0 {
-        return if f.is_refusal { false } else { same };
-    }
-    if f.is_refusal {
-        f.number == refusal as u64
+        !f.is_refusal && same
     } else {
-        false
+        f.is_refusal && f.number == u64::from(refusal)
     }
 }
 
 fn same_code(w: Word, code: u8) -> bool
     ensures { result ≡ same_code w code }
 {
-    if w.value == code as u64 % 2 {
-        w.unknown == code as u64 / 2
-    } else {
-        false
+    let code = u64::from(code);
+    w == Word {
+        value: code % 2,
+        unknown: code / 2,
     }
 }
 
@@ -60,13 +57,7 @@ pub fn is_bit(f: Field, r: BitResult) -> bool
 fn same_decision(w: Word, rule: u64, place: u64, r: DecisionResult) -> bool
     ensures { result ≡ same_decision w rule place r }
 {
-    if rule != r.rule as u64 {
-        return false;
-    }
-    if place != r.place as u64 {
-        return false;
-    }
-    same_code(w, r.bit)
+    rule == u64::from(r.rule) && place == u64::from(r.place) && same_code(w, r.bit)
 }
 
 // Whether a line's answer, rule and place are those of the decision that a call gave.
@@ -79,13 +70,10 @@ pub fn is_decision(f: Field, rule: u64, place: u64, r: DecisionResult) -> bool
 fn same_header(h: Header, r: HeaderResult) -> bool
     ensures { result ≡ same_header h r }
 {
-    if h.width != r.width {
-        return false;
-    }
-    if h.is_signed == r.is_signed {
-        h.is_fill == r.is_fill
-    } else {
-        false
+    h == Header {
+        width: r.width,
+        is_signed: r.is_signed,
+        is_fill: r.is_fill,
     }
 }
 
@@ -99,23 +87,18 @@ pub fn is_vector(f: Field, r: HeaderResult) -> bool
 fn word_at(words: &[u64], k: usize) -> u64
     ensures { result ≡ get_or words.now k 0 }
 {
-    if k < words.len() {
-        return words[k];
-    }
-    0
+    words.get(k).copied().unwrap_or(0)
 }
 
 // Whether each word of a plane is the word at its place, or 0 where there is none.
+#[tactic(auto, using(crate::proofs::Turns::done, crate::proofs::Turns::same, crate::proofs::Turns::other))]
 fn holds(plane: &[u64], words: &[u64]) -> bool
     ensures { result ≡ holds_from 0 plane.now words.now }
 {
-    let mut k = 0;
-    while k < plane.len() {
-        let word = word_at(words, k);
-        if plane[k] != word {
+    for (k, word) in plane.iter().enumerate() {
+        if *word != word_at(words, k) {
             return false;
         }
-        k += 1;
     }
     true
 }
@@ -124,8 +107,5 @@ fn holds(plane: &[u64], words: &[u64]) -> bool
 pub fn same_words(a: &[u64], b: &[u64]) -> bool
     ensures { result ≡ same_words a.now b.now }
 {
-    if !holds(a, b) {
-        return false;
-    }
-    holds(b, a)
+    holds(a, b) && holds(b, a)
 }
