@@ -1,9 +1,8 @@
 -- The parts of a literal behind its apostrophe, one law for each way through the code.
 --     sign-ends, sign_read      the sign: the end of the text, and an s or none
 --     base-ends, base-other, value-other, base_read     the base and the value behind it
---     no-base, a-base           a letter is a base if `base_of` gives one
-use mathlib.Core.Path.{◌≡◌, refl, sym, ap, ◌∙◌}
-use mathlib.Core.Bool.{Bool, true, false, ◌||◌, cond}
+use mathlib.Core.Path.{◌≡◌, sym, ap, ◌∙◌}
+use mathlib.Core.Bool.{Bool, true, false, cond}
 use mathlib.Core.List.{List, ◌∷◌}
 use Prim.Native.Nat.{ℕ, suc, ◌+◌, ◌≤◌, ◌<◌}
 use native.Mathlib.Nat.{add-zero}
@@ -12,10 +11,7 @@ use mir.Val.{bool_byte}
 use lib.ListN.{length, drop, get_or, drop_of_length-le}
 use lib.Seq.{drop-cons}
 use Rattle.refusal.specs.Outcome.Answer.{given, refused}
-use Rattle.std.specs.Prelude.{Option, Some, None, is_some}
-use Rattle.literal_words.specs.Digits.{is_b, is_o, is_d, is_h, base_of, value_bits, is_value}
-use Rattle.literal_words.specs.declared.Base.{Base}
-use Rattle.literal_words.specs.declared.Base.TheVariants.{Binary, Octal, Decimal, Hex}
+use Rattle.literal_words.specs.Digits.{value_bits, is_value}
 use Rattle.literal_read.specs.Literal.{is_s, is_base, sized, based, signed_based}
 
 module _ (w : ℕ) (s : List ℕ) (i : ℕ) where
@@ -33,22 +29,6 @@ module _ (w : ℕ) (s : List ℕ) (i : ℕ) where
       plain : (b : Bool) → b ≡ false
           → cond b (based w true (drop (suc i) s)) (based w false (get_or s i 0 ∷ drop (suc i) s)) ≡ based w false (get_or s i 0 ∷ drop (suc i) s)
       plain b e = rw e
-
-base-some : (c : ℕ) → is_base c ≡ is_some (base_of c)
-base-some c = go (is_b c) (is_o c) (is_d c) (is_h c)
-  where
-    go : (x y z w : Bool) → (x || (y || (z || w))) ≡ is_some (cond x (Some Binary) (cond y (Some Octal) (cond z (Some Decimal) (cond w (Some Hex) None))))
-    go true y z w = refl
-    go false true z w = refl
-    go false false true w = refl
-    go false false false true = refl
-    go false false false false = refl
-
-pub no-base : (c : ℕ) → base_of c ≡ None → is_base c ≡ false
-no-base c e = base-some c ∙ ap (λ (o : Option Base). is_some o) e
-
-pub a-base : (c : ℕ) (b : Base) → base_of c ≡ Some b → is_base c ≡ true
-a-base c b e = base-some c ∙ ap (λ (o : Option Base). is_some o) e
 
 module _ (w : ℕ) (b : Bool) (s : List ℕ) (i : ℕ) where
   pub base-ends : length s ≤ i → based w b (drop i s) ≡ refused 15

@@ -3,7 +3,7 @@ use Rattle.std.specs.Prelude.{Bool, false, ◌&&◌, ◌||◌, List, ℕ, ltb, d
 use Rattle.refusal.specs.Outcome.{Answer}
 use Rattle.refusal.specs.Outcome.Answer.{given, refused}
 use Rattle.value.specs.Checks.{Vector}
-use Rattle.literal_words.specs.Digits.{digit_of, is_unknown, is_underscore, value_bits, letter}
+use Rattle.literal_words.specs.Digits.{digit_of, is_unknown, is_underscore, value_bits}
 use Rattle.literal_read.specs.Literal.{sized, signed_based}
 use Rattle.literal_read.specs.declared.Size.{Size}
 use Rattle.literal_read.specs.declared.Literal.{Literal}
@@ -24,4 +24,4 @@ follows below unknown c = (digit_below below c || (unknown && is_unknown c)) || 
 -- a size, a sign, a base and the value that begins at a place
 abbrev pub literal_in : List ℕ → Option Literal → Answer Vector
 literal_in s None = refused 15
-literal_in s (Some l) = given (record { header = sized l.width l.is_signed; bits = value_bits (letter l.base) l.width (drop l.value s) })
+literal_in s (Some l) = given (record { header = sized l.width l.is_signed; bits = value_bits l.base l.width (drop l.value s) })

@@ -6,7 +6,7 @@ use Rattle.refusal.specs.Outcome.Answer.{given, refused}
 use Rattle.words.specs.Planes.{Planes}
 use Rattle.value.specs.Checks.{Vector, written}
 use Rattle.value.specs.declared.Header.{Header}
-use Rattle.literal_words.specs.Digits.{max_size, between, is_b, is_o, is_d, is_h, decimal_number, value_bits, is_run, is_value}
+use Rattle.literal_words.specs.Digits.{max_size, between, is_b, is_o, is_d, decimal_number, value_bits, is_run, is_value}
 
 -- ---- the parts
 
@@ -29,7 +29,7 @@ is_s c = eqb c 115 || eqb c 83
 
 -- b o d h, in either case
 abbrev pub is_base : ℕ → Bool
-is_base c = is_b c || (is_o c || (is_d c || is_h c))
+is_base c = is_b c || (is_o c || (is_d c || (eqb c 104 || eqb c 72)))
 
 -- ---- the vector
 

@@ -4,12 +4,12 @@
 ghost use Rattle.std.specs.Prelude.{◌≡◌, true, ◌<◌, drop, IfSome};
 ghost use Rattle.refusal.specs.Outcome.{outcome, answer};
 ghost use Rattle.words.specs.Planes.{lent_by};
-ghost use Rattle.literal_words.specs.Digits.{each, is_value, letter};
-ghost use Rattle.literal_read.specs.Literal.{is_s, sized, literal, literal_header, read_literal};
+ghost use Rattle.literal_words.specs.Digits.{each, is_value};
+ghost use Rattle.literal_read.specs.Literal.{is_s, is_base, sized, literal, literal_header, read_literal};
 ghost use Rattle.literal_read.specs.Answers.{size_in, digit_below, follows, literal_in};
 
 use literal_words::unchecked::fill_planes;
-use literal_words::{Base, MAX_SIZE, base_of, digit_number, is_decimal, is_unknown, radix};
+use literal_words::{MAX_SIZE, digit_number, is_decimal, is_unknown, radix};
 use refusal::Refusal;
 use value::{Header, check_output};
 
@@ -20,12 +20,12 @@ struct Size {
     next: usize,
 }
 
-// The parts of a literal: its base, and the place where its value begins.
+// The parts of a literal: its base as a letter, and the place where its value begins.
 #[derive(Clone, Copy)]
 struct Literal {
     width: u32,
     is_signed: bool,
-    base: Base,
+    base: u8,
     value: usize,
 }
 
@@ -64,6 +64,13 @@ fn is_sign(c: u8) -> bool
     (c == b's') | (c == b'S')
 }
 
+// b, o, d or h, in either case.
+fn is_base(c: u8) -> bool
+    ensures { result ≡ is_base c }
+{
+    matches!(c, b'b' | b'B' | b'o' | b'O' | b'd' | b'D' | b'h' | b'H')
+}
+
 // Whether a character is a digit below a bound.
 fn digit_below(c: u8, below: u64) -> bool
     ensures { result ≡ digit_below below c }
@@ -87,8 +94,8 @@ fn only_digits(s: &[u8], from: usize, below: u64, unknown: bool) -> bool
 
 // Whether the text from a place on is a value of the base: a digit, then digits and underscores; for a decimal also one x or z, then
 // underscores.
-fn is_value(base: Base, s: &[u8], from: usize) -> bool
-    ensures { result ≡ is_value (letter base) (drop from s.now) }
+fn is_value(base: u8, s: &[u8], from: usize) -> bool
+    ensures { result ≡ is_value base (drop from s.now) }
 {
     if s.len() <= from {
         return false;
@@ -110,13 +117,16 @@ fn is_value(base: Base, s: &[u8], from: usize) -> bool
 fn parts(s: &[u8]) -> Option<Literal>
     ensures result_value { literal_in s.now result ≡ literal s.now }
     ensures s_value { IfSome result
-        (λ l. (0 < l.width) × (is_value (letter l.base) (drop l.value s.now) ≡ true)) }
+        (λ l. (0 < l.width) × (is_value l.base (drop l.value s.now) ≡ true)) }
 {
     let size = read_size(s)?;
     let is_signed = is_sign(*s.get(size.next)?);
     let at = size.next + is_signed as usize;
-    let base = base_of(*s.get(at)?)?;
+    let base = *s.get(at)?;
     let value = at + 1;
+    if !is_base(base) {
+        return None;
+    }
     if !is_value(base, s, value) {
         return None;
     }

@@ -1,6 +1,5 @@
 -- The characters of a literal's value, and its base.
 --     kind                                        an x, a z, or neither
---     letters, value-letter, bits-letter          a letter is that of its base, in either case, and values in it are those of the base
 --     radix-bits, radix-decimal, radix-range      the radix is 2 to the bits of a digit, for d 10, and from 2 to 16
 --     digit-cases, decimal_digit                  what a digit of a base is; one of a decimal is no x and no z
 --     value-cases, value-some, value-readable     what a value is; it has a character, and each is read
@@ -14,15 +13,11 @@ use Prim.Native.Nat.{ℕ, ◌^◌, ◌≤◌, ◌<◌}
 use native.Mathlib.Omega.{arith}
 use borrow.Author.Tests.{eqb-true, ltb-true, not-true}
 use lib.Dec.{eqb, ltb}
-use Rattle.std.specs.Prelude.{Option, Some, None}
-use Rattle.std.proofs.lemmas.Option.{none-some, same_Some}
 use lib.ListN.{length, get_or, drop, length-drop}
 use lib.Seq.{drop-cons}
 use Rattle.bit.proofs.Tests.{and-true}
 use Rattle.literal_words.specs.Digits.{is_x, is_z, is_unknown, is_underscore, is_b, is_o, is_d, digit_number, radix, digit_width, digits, leading}
-use Rattle.literal_words.specs.Digits.{is_h, base_of, letter, value_bits, is_digit_of, each, is_run, is_lone, is_value}
-use Rattle.literal_words.specs.declared.Base.{Base}
-use Rattle.literal_words.specs.declared.Base.TheVariants.{Binary, Octal, Decimal, Hex}
+use Rattle.literal_words.specs.Digits.{is_digit_of, each, is_run, is_lone, is_value}
 use Rattle.literal_words.specs.Passes.{readable}
 
 or_cases : (a b : Bool) → (a || b) ≡ true → (a ≡ true) ⊎ (b ≡ true)
@@ -57,49 +52,6 @@ kind c = go (is_x c) refl (is_z c) refl
     go false e false f = known e f
 
 -- ---- bases
-
--- the letter of a base, in upper case
-abbrev capital : Base → ℕ
-capital Binary = 66
-capital Octal = 79
-capital Decimal = 68
-capital Hex = 72
-
-letters : (c : ℕ) (b : Base) → base_of c ≡ Some b → (c ≡ letter b) ⊎ (c ≡ capital b)
-letters c b = go (is_b c) refl (is_o c) refl (is_d c) refl (is_h c) refl
-  where
-    either : (a : Base) → (eqb c (letter a) || eqb c (capital a)) ≡ true → ◌≡◌ {A = Option Base} (Some a) (Some b) → (c ≡ letter b) ⊎ (c ≡ capital b)
-    either a t e =
-        subst (λ (b : Base). (c ≡ letter b) ⊎ (c ≡ capital b)) (same_Some a b e)
-        (⊎_elim (λ k. inl (eqb-true c (letter a) k)) (λ k. inr (eqb-true c (capital a) k)) (or_cases (eqb c (letter a)) (eqb c (capital a)) t))
-
-    go : (x : Bool) → is_b c ≡ x → (y : Bool) → is_o c ≡ y → (z : Bool) → is_d c ≡ z → (w : Bool) → is_h c ≡ w
-        → cond x (Some Binary) (cond y (Some Octal) (cond z (Some Decimal) (cond w (Some Hex) None))) ≡ Some b → (c ≡ letter b) ⊎ (c ≡ capital b)
-    go true t _ _ _ _ _ _ e = either Binary t e
-    go false _ true t _ _ _ _ e = either Octal t e
-    go false _ false _ true t _ _ e = either Decimal t e
-    go false _ false _ false _ true t e = either Hex t e
-    go false _ false _ false _ false _ e = absurd (none-some b e)
-
-pub value-letter : (c : ℕ) (b : Base) (t : List ℕ) → base_of c ≡ Some b → is_value c t ≡ is_value (letter b) t
-unfolding is_value is_digit_of radix
-value-letter c b t e = ⊎_elim (λ k. ap (λ (n : ℕ). is_value n t) k) (λ k. ap (λ (n : ℕ). is_value n t) k ∙ go b) (letters c b e)
-  where
-    go : (b : Base) → is_value (capital b) t ≡ is_value (letter b) t
-    go Binary = refl
-    go Octal = refl
-    go Decimal = refl
-    go Hex = refl
-
-pub bits-letter : (c : ℕ) (b : Base) (w : ℕ) (t : List ℕ) → base_of c ≡ Some b → value_bits c w t ≡ value_bits (letter b) w t
-unfolding value_bits digit_width
-bits-letter c b w t e = ⊎_elim (λ k. ap (λ (n : ℕ). value_bits n w t) k) (λ k. ap (λ (n : ℕ). value_bits n w t) k ∙ go b) (letters c b e)
-  where
-    go : (b : Base) → value_bits (capital b) w t ≡ value_bits (letter b) w t
-    go Binary = refl
-    go Octal = refl
-    go Decimal = refl
-    go Hex = refl
 
 pub radix-bits : (base : ℕ) → is_d base ≡ false → radix base ≡ 2 ^ digit_width base
 unfolding radix digit_width

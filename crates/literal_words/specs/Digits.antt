@@ -6,8 +6,6 @@ use Rattle.bit.specs.declared.LogicBit.{LogicBit}
 use Rattle.bit.specs.declared.LogicBit.TheVariants.{Zero, X, Z}
 use Rattle.words.specs.Vector.{tabulate, bit_at}
 use Rattle.words.specs.Planes.{stored}
-use Rattle.literal_words.specs.declared.Base.{Base}
-use Rattle.literal_words.specs.declared.Base.TheVariants.{Binary, Octal, Decimal, Hex}
 
 -- the largest size of a literal
 abbrev pub max_size : ℕ
@@ -52,20 +50,6 @@ is_o c = eqb c 111 || eqb c 79
 
 abbrev pub is_d : ℕ → Bool
 is_d c = eqb c 100 || eqb c 68
-
-abbrev pub is_h : ℕ → Bool
-is_h c = eqb c 104 || eqb c 72
-
--- the base of a letter
-abbrev pub base_of : ℕ → Option Base
-base_of c = cond (is_b c) (Some Binary) (cond (is_o c) (Some Octal) (cond (is_d c) (Some Decimal) (cond (is_h c) (Some Hex) None)))
-
--- the letter of a base, in lower case
-abbrev pub letter : Base → ℕ
-letter Binary = 98
-letter Octal = 111
-letter Decimal = 100
-letter Hex = 104
 
 unfoldable pub radix : ℕ → ℕ
 radix base = cond (is_b base) 2 (cond (is_o base) 8 (cond (is_d base) 10 16))

@@ -1,8 +1,9 @@
-// The value of a sized literal (IEEE 1800-2017, 5.7.1): what its characters stand for.
+// The value of a sized literal (IEEE 1800-2017, 5.7.1): what its characters stand for. A base is its letter, as a number:
+// `radix`, `is_decimal` and `fill_planes`, which docs/PROMISES.md names, take any.
 #![tactic(auto)]
 
 ghost use Rattle.std.specs.Prelude.{◌≡◌, [], ◌∷◌};
-ghost use Rattle.literal_words.specs.Digits.{is_x, is_z, is_unknown, is_d, digit_of, base_of, letter, radix as radix_of};
+ghost use Rattle.literal_words.specs.Digits.{is_x, is_z, is_unknown, is_d, digit_of, radix as radix_of};
 ghost use Rattle.literal_words.specs.Digits.{leading as leading_bit};
 
 use bit::LogicBit;
@@ -11,15 +12,6 @@ pub mod unchecked;
 
 // The largest size of a literal.
 pub const MAX_SIZE: u32 = 4096;
-
-// The base of a literal's digits: b, o, d or h.
-#[derive(Clone, Copy, PartialEq, Eq)]
-pub enum Base {
-    Binary,
-    Octal,
-    Decimal,
-    Hex,
-}
 
 // x or X.
 fn is_x(c: u8) -> bool
@@ -54,36 +46,23 @@ pub fn digit_number(c: u8) -> Option<u64>
     }
 }
 
-// The base of a letter, in either case; none for any other character.
-pub fn base_of(c: u8) -> Option<Base>
-    ensures { result ≡ base_of c }
+// d or D.
+pub fn is_decimal(base: u8) -> bool
+    ensures { result ≡ is_d base }
 {
-    match c {
-        b'b' | b'B' => Some(Base::Binary),
-        b'o' | b'O' => Some(Base::Octal),
-        b'd' | b'D' => Some(Base::Decimal),
-        b'h' | b'H' => Some(Base::Hex),
-        _ => None,
-    }
+    (base == b'd') | (base == b'D')
 }
 
-// Whether it is the base of the letter d.
-pub fn is_decimal(base: Base) -> bool
-    ensures { result ≡ is_d (letter base) }
-{
-    base == Base::Decimal
-}
-
-// 2, 8, 10 or 16.
+// 2 for b, 8 for o, 10 for d, else 16.
 #[tactic(auto, unfolding(crate::specs::Digits::radix))]
-pub fn radix(base: Base) -> u64
-    ensures { result ≡ radix_of (letter base) }
+pub fn radix(base: u8) -> u64
+    ensures { result ≡ radix_of base }
 {
     match base {
-        Base::Binary => 2,
-        Base::Octal => 8,
-        Base::Decimal => 10,
-        Base::Hex => 16,
+        b'b' | b'B' => 2,
+        b'o' | b'O' => 8,
+        b'd' | b'D' => 10,
+        _ => 16,
     }
 }
 

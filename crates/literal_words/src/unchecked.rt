@@ -3,10 +3,10 @@
 // for a value of the base and for planes of the right length.
 ghost use Rattle.std.specs.Prelude.{◌≡◌, ◌+◌, ◌*◌, ◌^◌, ◌≤◌, ◌<◌, true, length, drop};
 ghost use Rattle.words.specs.Planes.{word_count, lent_by, planes_of};
-ghost use Rattle.literal_words.specs.Digits.{is_value, value_bits, digits, number_by, letter};
+ghost use Rattle.literal_words.specs.Digits.{is_value, value_bits, digits, number_by};
 ghost use Rattle.literal_words.specs.Passes.{has_number, value_number, unknown_number, readable, ChunkOf, Taken};
 
-use crate::{Base, digit_number, is_unknown, is_z, leading, radix};
+use crate::{digit_number, is_unknown, is_z, leading, radix};
 use words::unchecked::{extend_into, mask_plane};
 
 // Digits read at once: what they add to either plane, the power of the base that has as many, and the place behind them.
@@ -108,17 +108,17 @@ fn take_digits(s: &[u8], from: usize, r: u64, value: &mut [u64], unknown: &mut [
 
 // Writes the planes of the vector that the value from a place on stands for.
 pub fn fill_planes(
-    base: Base,
+    base: u8,
     width: u32,
     s: &[u8],
     from: usize,
     value: &mut [u64],
     unknown: &mut [u64],
 )
-    requires s_value { is_value (letter base) (drop from s.now) ≡ true }
+    requires s_value { is_value base (drop from s.now) ≡ true }
     requires width_nonzero { (0 < width) × (length value.old ≡ word_count width) × (length unknown.old ≡ word_count width) }
     ensures { lent_by value.new unknown.new
-        ≡ planes_of (value_bits (letter base) width (drop from s.now)) }
+        ≡ planes_of (value_bits base width (drop from s.now)) }
 {
     let r = radix(base);
     let beyond = leading(s[from]);

@@ -8,7 +8,7 @@ use lib.Dec.{leb}
 use lib.ListN.{length, drop, get_or, drop_of_length-le}
 use lib.Seq.{drop-cons}
 use Rattle.bit.proofs.Tests.{and-true}
-use Rattle.literal_words.specs.Digits.{is_unknown, digit_number, is_d, radix, letter, each, is_value}
+use Rattle.literal_words.specs.Digits.{is_unknown, digit_number, is_d, radix, each, is_value}
 use Rattle.literal_words.proofs.Characters.{radix-range}
 use Rattle.literal_read.specs.Answers.{digit_below, follows}
 use Rattle.literal_read.proofs.Runs.{not-below, value_none, value-lone, value-off, value-run}
@@ -20,12 +20,12 @@ split b s i l = ap (is_value b) (rw add-one (drop-cons s i 0 l))
 
 pub returns-then-s-from : goal.returns-then-s-from
 returns-then-s-from c =
-    let b = letter c.args.base in
+    let b = c.args.base in
     sym (ap (is_value b) (drop_of_length-le c.args.s.now c.if-s-from.true) ∙ value_none b)
 
 pub returns-then-decimal-unknown : goal.returns-then-decimal-unknown
 returns-then-decimal-unknown c =
-    let b = letter c.args.base in
+    let b = c.args.base in
     let s = c.args.s.now in
     let x = get_or s c.args.from 0 in
     let lone = ap₂ (λ (d u : Bool). d && u) c.is_decimal-decimal.ensures c.is_unknown-unknown.ensures in
@@ -39,7 +39,7 @@ off b x r u e R U E = ap₂ (λ (v w : Bool). not v && w) U (ap not (E ∙ ap (�
 
 pub returns-then-unknown-digit_below : goal.returns-then-unknown-digit_below
 returns-then-unknown-digit_below c =
-    let b = letter c.args.base in
+    let b = c.args.base in
     let s = c.args.s.now in
     let x = get_or s c.args.from 0 in
     let o = off b x _ _ _ c.radix-r.ensures c.is_unknown-unknown.ensures c.digit_below.ensures in
@@ -47,7 +47,7 @@ returns-then-unknown-digit_below c =
 
 pub returns : goal.returns
 returns c =
-    let b = letter c.args.base in
+    let b = c.args.base in
     let s = c.args.s.now in
     let x = get_or s c.args.from 0 in
     let lone = ap₂ (λ (d u : Bool). d && u) c.is_decimal-decimal.ensures c.is_unknown-unknown.ensures in
