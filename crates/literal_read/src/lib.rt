@@ -82,7 +82,7 @@ fn digit_below(c: u8, below: u64) -> bool
 fn follows(c: u8, below: u64, unknown: bool) -> bool
     ensures { result ≡ follows below unknown c }
 {
-    digit_below(c, below) | (unknown & is_unknown(c)) | (c == b'_')
+    digit_below(c, below) || (unknown && is_unknown(c)) || c == b'_'
 }
 
 // Whether each character from a place on is one of these.

@@ -38,12 +38,17 @@ pub fn is_unknown(c: u8) -> bool
 pub fn digit_number(c: u8) -> Option<u64>
     ensures { result ≡ digit_of c }
 {
-    match c {
-        b'0'..=b'9' => Some((c - b'0') as u64),
-        b'a'..=b'f' => Some((c - 87) as u64),
-        b'A'..=b'F' => Some((c - 55) as u64),
-        _ => None,
+    // Tests one after the other: a `match` on ranges takes more instructions for each digit.
+    if (b'0' <= c) & (c <= b'9') {
+        return Some((c - b'0') as u64);
     }
+    if (b'a' <= c) & (c <= b'f') {
+        return Some((c - 87) as u64);
+    }
+    if (b'A' <= c) & (c <= b'F') {
+        return Some((c - 55) as u64);
+    }
+    None
 }
 
 // d or D.

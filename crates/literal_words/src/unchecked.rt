@@ -6,7 +6,7 @@ ghost use Rattle.words.specs.Planes.{word_count, lent_by, planes_of};
 ghost use Rattle.literal_words.specs.Digits.{is_value, value_bits, digits, number_by};
 ghost use Rattle.literal_words.specs.Passes.{has_number, value_number, unknown_number, readable, ChunkOf, Taken};
 
-use crate::{digit_number, is_unknown, is_z, leading, radix};
+use crate::{digit_number, is_unknown, is_x, is_z, leading, radix};
 use words::unchecked::{extend_into, mask_plane};
 
 // Digits read at once: what they add to either plane, the power of the base that has as many, and the place behind them.
@@ -24,9 +24,13 @@ fn value_number(r: u64, c: u8) -> u64
     requires { 0 < r }
     ensures { has_number c ≡ true → result ≡ value_number r c }
 {
-    match digit_number(c) {
-        Some(d) => d,
-        None => if is_z(c) { r - 1 } else { 0 },
+    if is_z(c) {
+        return r - 1;
+    }
+    if is_x(c) {
+        0
+    } else {
+        digit_number(c).unwrap_or(0)
     }
 }
 
