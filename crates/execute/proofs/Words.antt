@@ -1,5 +1,4 @@
 -- The lowest place of a word, the two words of one bit, and the first word of a vector.
---     lane_bit                     a rule at the lowest place of two words
 --     everywhere                   a word whose places all hold one bit
 --     value-word, unknown-word     the two words of a vector of one bit
 --     first_word                   the lowest 64 bits of a vector are its word 0
@@ -16,11 +15,6 @@ use Rattle.words.specs.Planes.{value_digit, unknown_digit, word_of, word_at, pac
 use Rattle.words.proofs.Digits.{bit-zero, bit-lt}
 use Rattle.words.proofs.Planes.{value-digit-stored, unknown-digit-stored}
 use Rattle.bits.proofs.Splice.{packed-bit}
-use Rattle.lanes.specs.Lanes.{lane_word}
-
-pub lane_bit : (f : LogicBit → LogicBit → LogicBit) (a b : Word) → bit_of (lane_word f a b) 0 ≡ f (bit_of a 0) (bit_of b 0)
-unfolding lane_word
-lane_bit f a b = packed-bit (λ j. f (bit_of a j) (bit_of b j)) 0 (omega arith)
 
 -- every place of a word holds the bit
 pub everywhere : (x : Word) (b : LogicBit) → x ≡ packed (λ j. b) → bit_of x 0 ≡ b

@@ -1,8 +1,7 @@
 // The ops worked out, and a planned step. These ask their caller for accepted operands and for room.
 ghost use Rattle.std.specs.Prelude.{◌≡◌, true, false, ◌≤◌, length};
-ghost use Rattle.words.specs.Planes.{word_count, bit_of, lent_by, planes_of, Plane};
+ghost use Rattle.words.specs.Planes.{word_count, lent_by, planes_of, Plane};
 ghost use Rattle.value.specs.Checks.{vector};
-ghost use Rattle.reduce_words.specs.Fold.{truth_bit};
 ghost use Rattle.ops.specs.Ops.{arms_refused, op_header, answer_bit, op_bits};
 ghost use Rattle.cells.specs.Cells.{cell_agrees, put_planes};
 ghost use Rattle.cells.specs.Places.{fields_by};
@@ -13,57 +12,44 @@ use bit::LogicBit;
 use bitwise_words::unchecked::{join_planes, not_planes};
 use cells::unchecked::{cell_at, cell_words, copy_behind};
 use compare_words::unchecked::compare;
-use lanes::{Bitwise, and_lanes, or_lanes};
+use lanes::Bitwise;
 use ops::{Family, Op, Question};
 use plan::PlannedStep;
 use reduce_words::Truth;
 use reduce_words::unchecked::{and_bits, truth, xor_bits};
 use value::Header;
 use words::unchecked::{filled, operand_word};
-use words::{Word, word_count};
+use words::word_count;
 
-// A word that holds a truth as a bit, at its lowest place: no `From`, since both types are of crates below.
-fn truth_word(t: Truth) -> Word
-    ensures { bit_of result 0 ≡ truth_bit t }
-{
-    match t {
-        Truth::False => Word {
-            value: 0,
-            unknown: 0,
-        },
-        Truth::True => Word {
-            value: 1,
-            unknown: 0,
-        },
-        Truth::Unknown => Word {
-            value: 0,
-            unknown: 1,
-        },
-    }
-}
-
-// A word that holds the bit that is the answer, at its lowest place.
-#[tactic(auto, using(crate::proofs::Words::lane_bit))]
-fn answer(q: Question, a: Header, av: &[u64], au: &[u64], b: Header, bv: &[u64], bu: &[u64]) -> Word
+// The bit that is the answer.
+fn answer(
+    q: Question,
+    a: Header,
+    av: &[u64],
+    au: &[u64],
+    b: Header,
+    bv: &[u64],
+    bu: &[u64],
+) -> LogicBit
     requires plane { Plane a.width av.now × Plane a.width au.now }
     requires plane_2 { Plane b.width bv.now × Plane b.width bu.now }
-    ensures { bit_of result 0
+    ensures { result
         ≡ answer_bit q (vector a (lent_by av.now au.now)) (vector b (lent_by bv.now bu.now)) }
 {
     match q {
-        Question::ReduceAnd => filled(and_bits(a.width, av, au)),
-        Question::ReduceOr => truth_word(truth(a.width, av, au)),
-        Question::ReduceXor => filled(xor_bits(a.width, av, au)),
-        Question::Compare(op) => filled(compare(op, a, av, au, b, bv, bu)),
+        Question::ReduceAnd => and_bits(a.width, av, au),
+        Question::ReduceOr => LogicBit::from(truth(a.width, av, au)),
+        Question::ReduceXor => xor_bits(a.width, av, au),
+        Question::Compare(op) => compare(op, a, av, au, b, bv, bu),
         Question::LogicAnd => {
-            let x = truth_word(truth(a.width, av, au));
-            let y = truth_word(truth(b.width, bv, bu));
-            and_lanes(x, y)
+            let x = LogicBit::from(truth(a.width, av, au));
+            let y = LogicBit::from(truth(b.width, bv, bu));
+            bit::and(x, y)
         }
         Question::LogicOr => {
-            let x = truth_word(truth(a.width, av, au));
-            let y = truth_word(truth(b.width, bv, bu));
-            or_lanes(x, y)
+            let x = LogicBit::from(truth(a.width, av, au));
+            let y = LogicBit::from(truth(b.width, bv, bu));
+            bit::or(x, y)
         }
     }
 }
@@ -103,7 +89,7 @@ fn work(
         }
         Family::Not => not_planes(a.width, av, au, ov, ou),
         Family::Answer(q) => {
-            let x = answer(q, a, av, au, b, bv, bu);
+            let x = filled(answer(q, a, av, au, b, bv, bu));
             ov[0] = x.value % 2;
             ou[0] = x.unknown % 2;
         }

@@ -5,7 +5,7 @@ use Prim.Native.Nat.{ℕ}
 use native.Mathlib.Omega.{arith}
 use Rattle.words.specs.declared.Word.{Word}
 use Rattle.words.specs.Vector.{at}
-use Rattle.words.specs.Planes.{Planes, word_count, value_digit, unknown_digit, bit_of, from_planes, vector_of, lent, lent_by, planes_of}
+use Rattle.words.specs.Planes.{Planes, word_count, value_digit, unknown_digit, from_planes, vector_of, lent, lent_by, planes_of}
 use Rattle.words.proofs.Fill.{start, more, plane-done}
 use Rattle.bits.specs.Bits.{spliced}
 use Rattle.bits.proofs.Splice.{planes-again}
@@ -14,7 +14,7 @@ use Rattle.reduce_words.specs.declared.Truth.TheVariants.{True, False}
 use Rattle.reduce_words.specs.Fold.{truth_of}
 use Rattle.ops.specs.declared.Family.{Family}
 use Rattle.ops.specs.Ops.{family_header, answer_bit}
-use Rattle.execute.proofs.Words.{value-word, unknown-word, first_word}
+use Rattle.execute.proofs.Words.{everywhere, value-word, unknown-word, first_word}
 use Rattle.execute.proofs.unchecked.work.Goals as goal
 
 pub returns-in-Answer : goal.returns-in-Answer
@@ -24,11 +24,12 @@ returns-in-Answer c =
     let n = c.requires.ov_len.0 ∙ sym (ap one c.in-Answer.ensures) in
     let m = c.requires.ov_len.1 ∙ sym (ap one c.in-Answer.ensures) in
     let r = answer_bit c.in-Answer.q (vector a.a (lent_by a.av.now a.au.now)) (vector a.b (lent_by a.bv.now a.bu.now)) in
-    let low : bit_of c.answer-x.result 0 ≡ r = cc in
+    let answered : c.answer.result ≡ r = cc in
+    let low = everywhere _ _ c.filled-x.ensures ∙ answered in
     rw (← c.in-Answer.ensures)
     (ap₂ lent
-    (plane-done value_digit (r ∷ []) _ _ _ (more {out = a.ov.now} (start n) (omega arith) (value-word c.answer-x.result r low)) (omega arith) refl)
-    (plane-done unknown_digit (r ∷ []) _ _ _ (more {out = a.ou.now} (start m) (omega arith) (unknown-word c.answer-x.result r low)) (omega arith) refl))
+    (plane-done value_digit (r ∷ []) _ _ _ (more {out = a.ov.now} (start n) (omega arith) (value-word c.filled-x.result r low)) (omega arith) refl)
+    (plane-done unknown_digit (r ∷ []) _ _ _ (more {out = a.ou.now} (start m) (omega arith) (unknown-word c.filled-x.result r low)) (omega arith) refl))
 
 pub returns-in-True : goal.returns-in-True
 returns-in-True c =
