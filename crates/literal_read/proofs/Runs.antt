@@ -1,6 +1,6 @@
 -- The characters of a value, one after the other, and the values of a base by their first.
 --     each-list      every character passes, in the library's word
---     below-digit, not-below      a digit below a bound, by its number
+--     not-below      no digit below a bound
 --     value_none, value-lone, value-off, value-run      one law for each way through `is_value`
 use mathlib.Core.Path.{◌≡◌, refl, sym, ap, ap₂, ◌∙◌}
 use mathlib.Core.Bool.{Bool, true, false, not, ◌&&◌, ◌||◌, false≢true}
@@ -9,12 +9,11 @@ use Prim.Native.Nat.{ℕ, ◌≤◌}
 use native.Mathlib.Omega.{arith}
 use lib.Dec.{leb, ltb}
 use borrow.Author.Tests.{le-ltb, lt-ltb, le-leb, lt-leb, ltb-true, ltb-false, leb-true, leb-false, not-true}
-use Rattle.std.specs.Prelude.{Option, Some, None, option_map, unwrap_or}
 use Rattle.std.specs.List.{list_all}
 use Rattle.bit.proofs.Tests.{and-true, and_none, or-none}
-use Rattle.literal_words.specs.Digits.{is_underscore, is_unknown, digit_of, digit_number, is_d, radix, is_digit_of, each, is_run, is_lone, is_value}
+use Rattle.literal_words.specs.Digits.{is_underscore, is_unknown, digit_number, is_d, radix, is_digit_of, each, is_run, is_lone, is_value}
 use Rattle.literal_words.proofs.Characters.{Kind, an-x, a_z, known, kind, radix-range}
-use Rattle.literal_read.specs.Answers.{digit_below, follows}
+use Rattle.literal_read.specs.Answers.{follows}
 
 -- every character passes, in the library's word
 pub each-list : (p : ℕ → Bool) (t : List ℕ) → each p t ≡ list_all p t
@@ -37,17 +36,9 @@ unknown-number c h = go (kind c)
     go (a_z _ _ _ e) = e
     go (known e f) = absurd (false≢true (rw (e, f) at h))
 
--- a digit below a bound that no base is above
-pub below-digit : (r c : ℕ) → r ≤ 16 → digit_below r c ≡ ltb (digit_number c) r
-unfolding digit_number
-below-digit r c h = go (digit_of c)
-  where
-    go : (o : Option ℕ) → unwrap_or (option_map (λ d. ltb d r) o) false ≡ ltb (unwrap_or o 16) r
-    go (Some d) = refl
-    go None = sym (le-ltb 16 r h)
-
-pub not-below : (r c : ℕ) → r ≤ 16 → not (digit_below r c) ≡ leb r (digit_number c)
-not-below r c h = ap not (below-digit r c h) ∙ go (ltb (digit_number c) r) refl
+-- no digit below a bound
+pub not-below : (r c : ℕ) → not (ltb (digit_number c) r) ≡ leb r (digit_number c)
+not-below r c = go (ltb (digit_number c) r) refl
   where
     go : (b : Bool) → ltb (digit_number c) r ≡ b → not b ≡ leb r (digit_number c)
     go true e = sym (lt-leb r (digit_number c) (ltb-true _ _ e))
@@ -78,16 +69,13 @@ module _ (base c : ℕ) (t : List ℕ) where
   value_as : is_value base (c ∷ t)
       ≡ valued (ltb (digit_number c) (radix base)) (is_d base) (is_unknown c) (each (follows (radix base) (not (is_d base))) t) (each is_underscore t)
   unfolding is_value is_run is_lone is_digit_of
-  value_as =
-      ap (λ (E : Bool). valued (ltb (digit_number c) (radix base)) (is_d base) (is_unknown c) E (each is_underscore t))
-      (each_same (λ e. is_digit_of base e || is_underscore e) (follows (radix base) (not (is_d base))) t
-      (λ k. ap (λ (x : Bool). (x || (not (is_d base) && is_unknown k)) || is_underscore k) (sym (below-digit (radix base) k (radix-range base).1))))
+  value_as = refl
 
   -- a decimal that begins with an x or z
   pub value-lone : is_d base ≡ true → is_unknown c ≡ true → is_value base (c ∷ t) ≡ each (follows 0 false) t
   value-lone d u =
       let h : radix base ≤ digit_number c = rw (unknown-number c u) (radix-range base).1 in
-      let e : each is_underscore t ≡ each (follows 0 false) t = each_same is_underscore (follows 0 false) t (λ k. rw (below-digit 0 k (omega arith), le-ltb (digit_number k) 0 (omega arith))) in
+      let e : each is_underscore t ≡ each (follows 0 false) t = each_same is_underscore (follows 0 false) t (λ k. rw (le-ltb (digit_number k) 0 (omega arith))) in
       value_as ∙ lone (ltb (digit_number c) (radix base)) (is_d base) (is_unknown c) (le-ltb (digit_number c) (radix base) h) d u ∙ e
     where
       lone : (n d u : Bool) → n ≡ false → d ≡ true → u ≡ true

@@ -1,12 +1,12 @@
 // Sized literals of IEEE 1800-2017, 5.7.1, read: a size of 1 to 4,096, an apostrophe, an optional s, a base and a value, such as 8'hzx.
 #![tactic(auto)]
 
-ghost use Rattle.std.specs.Prelude.{◌≡◌, true, ◌<◌, drop, IfSome};
+ghost use Rattle.std.specs.Prelude.{◌≡◌, true, ◌<◌, ltb, drop, IfSome};
 ghost use Rattle.refusal.specs.Outcome.{outcome, answer};
 ghost use Rattle.words.specs.Planes.{lent_by};
-ghost use Rattle.literal_words.specs.Digits.{each, is_value};
+ghost use Rattle.literal_words.specs.Digits.{digit_number, each, is_value};
 ghost use Rattle.literal_read.specs.Literal.{is_s, is_base, sized, literal, literal_header, read_literal};
-ghost use Rattle.literal_read.specs.Answers.{size_in, digit_below, follows, literal_in};
+ghost use Rattle.literal_read.specs.Answers.{size_in, follows, literal_in};
 
 use literal_words::unchecked::fill_planes;
 use literal_words::{MAX_SIZE, digit_number, is_decimal, is_unknown, radix};
@@ -71,11 +71,12 @@ fn is_base(c: u8) -> bool
     matches!(c, b'b' | b'B' | b'o' | b'O' | b'd' | b'D' | b'h' | b'H')
 }
 
-// Whether a character is a digit below a bound.
+// Whether a character is a digit below a bound; one that is none counts as 16, which no base has.
+#[tactic(auto, unfolding(literal_words::specs::Digits::digit_number))]
 fn digit_below(c: u8, below: u64) -> bool
-    ensures { result ≡ digit_below below c }
+    ensures { result ≡ ltb (digit_number c) below }
 {
-    digit_number(c).is_some_and(|d| d < below)
+    digit_number(c).unwrap_or(16) < below
 }
 
 // Whether a character is a digit below a bound, an x or z where these may stand, or an underscore.

@@ -4,13 +4,12 @@ use mathlib.Core.Bool.{Bool, not, ◌&&◌}
 use mathlib.Core.List.{List, ◌∷◌}
 use Prim.Native.Nat.{ℕ, ◌+◌, ◌<◌}
 use native.Mathlib.Numerals.{add-one}
-use lib.Dec.{leb}
+use lib.Dec.{leb, ltb}
 use lib.ListN.{length, drop, get_or, drop_of_length-le}
 use lib.Seq.{drop-cons}
 use Rattle.bit.proofs.Tests.{and-true}
 use Rattle.literal_words.specs.Digits.{is_unknown, digit_number, is_d, radix, each, is_value}
-use Rattle.literal_words.proofs.Characters.{radix-range}
-use Rattle.literal_read.specs.Answers.{digit_below, follows}
+use Rattle.literal_read.specs.Answers.{follows}
 use Rattle.literal_read.proofs.Runs.{not-below, value_none, value-lone, value-off, value-run}
 use Rattle.literal_read.proofs.is_value.Goals as goal
 
@@ -33,9 +32,9 @@ returns-then-decimal-unknown c =
     c.only_digits.ensures ∙ sym (split b s c.args.from c.if-s-from.false ∙ value-lone b x _ p.0 p.1)
 
 -- the test of the first digit
-off : (b x r : ℕ) (u e : Bool) → r ≡ radix b → u ≡ is_unknown x → e ≡ digit_below r x
+off : (b x r : ℕ) (u e : Bool) → r ≡ radix b → u ≡ is_unknown x → e ≡ ltb (digit_number x) r
     → (not u && not e) ≡ (not (is_unknown x) && leb (radix b) (digit_number x))
-off b x r u e R U E = ap₂ (λ (v w : Bool). not v && w) U (ap not (E ∙ ap (λ (n : ℕ). digit_below n x) R) ∙ not-below (radix b) x (radix-range b).1)
+off b x r u e R U E = ap₂ (λ (v w : Bool). not v && w) U (ap not (E ∙ ap (λ (n : ℕ). ltb (digit_number x) n) R) ∙ not-below (radix b) x)
 
 pub returns-then-unknown-digit_below : goal.returns-then-unknown-digit_below
 returns-then-unknown-digit_below c =
