@@ -5,7 +5,7 @@ ghost use Rattle.ops.specs.Names.{all_ops};
 
 use crate::Op;
 
-// The op at a place of the list of names, from 0.
+// The op at a place of the list of names, from 0: a table beside that of the codes, since the two part when an op is retired.
 pub fn op_at(n: usize) -> Op
     requires { n < 17 }
     ensures { result ≡ get_or all_ops n And }
