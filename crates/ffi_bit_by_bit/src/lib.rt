@@ -13,10 +13,11 @@ ghost use Rattle.bitwise.specs.Bitwise.{bitwise_not};
 ghost use Rattle.truth.specs.Truth.{is_nonzero};
 ghost use Rattle.abi.specs.Coded.{coded_header, coded_truth, coded, coded_outcome};
 
-use refusal::Refusal;
-use abi::{BitResult, HeaderResult, header_result, truth_result};
+use abi::{BitResult, HeaderResult};
+use bit::LogicBit;
 use bits::unchecked::get;
 use reduce_words::Truth;
+use refusal::Refusal;
 use value::{Header, check_output, check_vector};
 use words::Word;
 use words::unchecked::least;
@@ -29,11 +30,10 @@ fn not_word(width: u32, av: &[u64], au: &[u64], k: usize) -> Word
     ensures { result ≡ word_at (at (inverted (from_planes width av.now au.now))) k }
 {
     let start = k * 64;
-    let mut i = least(start + 64, width as usize);
+    let end = least(start + 64, width as usize);
     let mut value: u64 = 0;
     let mut unknown: u64 = 0;
-    while start < i {
-        i -= 1;
+    for i in (start..end).rev() {
         let b = get(width, av, au, i);
         let c = u8::from(bit::not(b)) as u64;
         value = value * 2 + c % 2;
@@ -49,35 +49,33 @@ fn not_bits(width: u32, av: &[u64], au: &[u64], ov: &mut [u64], ou: &mut [u64])
     ensures { lent_by ov.new ou.new
         ≡ planes_of (inverted (from_planes width av.now au.now)) }
 {
-    let mut k = 0;
-    while k < ov.len() {
+    for k in 0..ov.len() {
         let x = not_word(width, av, au, k);
         ov[k] = x.value;
         ou[k] = x.unknown;
-        k += 1;
     }
 }
 
 // Not, refused as `bitwise::bitwise_not` refuses.
-fn not_vector(a: Header, av: &[u64], au: &[u64], ov: &mut [u64], ou: &mut [u64]) -> Result<Header, Refusal>
+#[tactic(auto, using(value::proofs::Checks::vector_accepted), unfolding(value::specs::Checks::check_output))]
+fn not_vector(
+    a: Header,
+    av: &[u64],
+    au: &[u64],
+    ov: &mut [u64],
+    ou: &mut [u64],
+) -> Result<Header, Refusal>
     ensures { outcome (answer result) (lent_by ov.new ou.new)
         ≡ bitwise_not a (lent_by av.now au.now) (lent_by ov.old ou.old) }
 {
-    let width = a.width;
-    match check_vector(a, av, au) {
-        Err(r) => Err(r),
-        Ok(()) => match check_output(width, ov, ou) {
-            Err(r) => Err(r),
-            Ok(()) => {
-                not_bits(width, av, au, ov, ou);
-                Ok(Header {
-                    width: width,
-                    is_signed: a.is_signed,
-                    is_fill: false,
-                })
-            }
-        },
-    }
+    check_vector(a, av, au)?;
+    check_output(a.width, ov, ou)?;
+    not_bits(a.width, av, au, ov, ou);
+    Ok(Header {
+        width: a.width,
+        is_signed: a.is_signed,
+        is_fill: false,
+    })
 }
 
 // True at the first known 1, else unknown where an unknown bit was seen, else false.
@@ -85,16 +83,14 @@ fn truth_bits(width: u32, value: &[u64], unknown: &[u64]) -> Truth
     requires { (length value.now ≡ word_count width) × (length unknown.now ≡ word_count width) }
     ensures { result ≡ truth_of (from_planes width value.now unknown.now) }
 {
-    let w = width as usize;
     let mut seen = false;
-    let mut i = 0;
-    while i < w {
-        let c = u8::from(get(width, value, unknown, i));
-        if c == 1 {
-            return Truth::True;
+    for i in 0..width as usize {
+        let b = get(width, value, unknown, i);
+        match b {
+            LogicBit::One => return Truth::True,
+            LogicBit::Zero => {}
+            LogicBit::X | LogicBit::Z => seen = true,
         }
-        seen = seen | (c > 1);
-        i += 1;
     }
     if seen {
         return Truth::Unknown;
@@ -103,14 +99,12 @@ fn truth_bits(width: u32, value: &[u64], unknown: &[u64]) -> Truth
 }
 
 // The truth of a vector, refused as `truth::is_nonzero` refuses.
+#[tactic(auto, using(value::proofs::Checks::vector_accepted), unfolding(value::specs::Checks::check_operand))]
 fn truth_vector(a: Header, value: &[u64], unknown: &[u64]) -> Result<Truth, Refusal>
     ensures { answer result ≡ is_nonzero (Vector a) (lent_by value.now unknown.now) }
 {
-    let width = a.width;
-    match check_vector(a, value, unknown) {
-        Err(r) => Err(r),
-        Ok(()) => Ok(truth_bits(width, value, unknown)),
-    }
+    check_vector(a, value, unknown)?;
+    Ok(truth_bits(a.width, value, unknown))
 }
 
 // Not, bit by bit: the equation of `ffi::vowherunga_bitwise_not`.
@@ -125,7 +119,7 @@ pub extern "C" fn bit_by_bit_not(
     ensures { coded result (lent_by ov.new ou.new)
         ≡ coded_outcome coded_header (bitwise_not a (lent_by av.now au.now) (lent_by ov.old ou.old)) }
 {
-    header_result(not_vector(a, av, au, ov, ou))
+    HeaderResult::from(not_vector(a, av, au, ov, ou))
 }
 
 // Truth, bit by bit: the equation of `ffi_answers::vowherunga_is_nonzero` for a vector; 0 false, 1 true, 2 unknown.
@@ -133,5 +127,5 @@ pub extern "C" fn bit_by_bit_not(
 pub extern "C" fn bit_by_bit_truth(a: Header, value: &[u64], unknown: &[u64]) -> BitResult
     ensures { result ≡ coded_truth (is_nonzero (Vector a) (lent_by value.now unknown.now)) }
 {
-    truth_result(truth_vector(a, value, unknown))
+    BitResult::from(truth_vector(a, value, unknown))
 }

@@ -1,6 +1,6 @@
 -- `not_bits`: the words below k are those of the inverted vector.
 use mathlib.Core.List.{List}
-use Prim.Native.Nat.{ℕ, ◌-◌, ◌≤◌}
+use Prim.Native.Nat.{ℕ}
 use lib.ListN.{length}
 use Rattle.bit.specs.declared.LogicBit.{LogicBit}
 use Rattle.words.specs.Vector.{at, FilledTo}
@@ -14,9 +14,5 @@ result w v u = inverted (from_planes w v u)
 
 abbrev pub invariant-loop-k : goal.invariant-loop-k
 invariant-loop-k l =
-    (l.k ≤ length l.initial.ov)
-    × FilledTo 0 (word_of value_digit (at (result l.width l.av l.au))) (length l.initial.ov) l.k l.ov
+    FilledTo 0 (word_of value_digit (at (result l.width l.av l.au))) (length l.initial.ov) l.k l.ov
     × FilledTo 0 (word_of unknown_digit (at (result l.width l.av l.au))) (length l.initial.ou) l.k l.ou
-
-abbrev pub decreases-loop-k : goal.decreases-loop-k
-decreases-loop-k l = length l.initial.ov - l.k
