@@ -18,7 +18,7 @@ pub use real::from_real_wrapped;
 pub use reduce::{reduce_and, reduce_or, reduce_xor};
 pub use reduce_words::Truth;
 pub use refusal::Refusal;
-pub use steps::{RunAnswer, RunEnding, run};
+pub use steps::{RunAnswer, Stop, run};
 pub use store::{Store, Stored};
 pub use truth::{is_nonzero, logic_and, logic_or};
 pub use value::{Header, MAX_WIDTH, Operand, check_vector};

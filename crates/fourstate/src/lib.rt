@@ -164,8 +164,8 @@ pub mod steplists {
     pub use entries::Step;
     // Runs the step list in a text from an empty store, and writes its lines to a buffer.
     pub use entries::run;
-    // Every step run and how many they are, or a refusal and its step.
-    pub use entries::RunEnding;
-    // The store that a run leaves, how many bytes it wrote, and how it ended.
+    // What stopped a run: a refusal and its step.
+    pub use entries::Stop;
+    // The store that a run leaves, how many bytes it wrote, and how it ended: how many steps were run, or what stopped it.
     pub use entries::RunAnswer;
 }

@@ -4,7 +4,7 @@
 
 use agreement::same_words;
 use fourstate::cellstore::Store;
-use fourstate::steplists::{Op, RunEnding, Step, run};
+use fourstate::steplists::{Op, Step, run};
 use fourstate::vectors::Header;
 use std::io;
 
@@ -29,11 +29,7 @@ fn run_agrees() -> bool {
         &mut su,
         &mut out,
     );
-    let ending = r.ending;
-    match ending {
-        RunEnding::Refused(_, _) => false,
-        RunEnding::Done(n) => n == 2 && hold_case(&av, &au),
-    }
+    matches!(r.ending, Ok(2)) && hold_case(&av, &au)
 }
 
 // Whether the last step on the store adds cell 3.
@@ -64,11 +60,7 @@ fn store_agrees() -> bool {
     let b = a.store.add_input(h, &[1], &[0], &mut av, &mut au);
     let c = b.store.add_step(and, &mut av, &mut au, &mut sv, &mut su);
     let d = c.store.add_step(or, &mut av, &mut au, &mut sv, &mut su);
-    let answer = d.answer;
-    match answer {
-        Err(_) => false,
-        Ok(n) => n == 3 && hold_case(&av, &au),
-    }
+    matches!(d.answer, Ok(3)) && hold_case(&av, &au)
 }
 
 // Writes whether a case agrees.

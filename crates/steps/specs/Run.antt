@@ -1,5 +1,5 @@
 -- Document 01, "Step list": the run of a list on a memory, and what it writes. Each input and each step gets the memory as the one before left it.
-use Rattle.std.specs.Prelude.{List, [], ◌∷◌, ◌++◌, ℕ, suc}
+use Rattle.std.specs.Prelude.{List, [], ◌∷◌, ◌++◌, ℕ, suc, Result, Ok, Err}
 use Rattle.bit.specs.declared.LogicBit.{LogicBit}
 use Rattle.refusal.specs.Refusals.{refusal_number}
 use Rattle.refusal.specs.Outcome.{Answer}
@@ -13,8 +13,7 @@ use Rattle.store.specs.Store.{state, empty_store, store_of}
 use Rattle.store.specs.Step.{Memory, memory, memory_by, add_step, step_result}
 use Rattle.load.specs.Inputs.{add_inputs}
 use Rattle.steplist.specs.Listing.{StepList, whole}
-use Rattle.steps.specs.declared.RunEnding.{RunEnding}
-use Rattle.steps.specs.declared.RunEnding.TheVariants as run-ending
+use Rattle.steps.specs.declared.Stop.{Stop}
 use Rattle.steps.specs.declared.Pass.{Pass}
 use Rattle.steps.specs.declared.RunAnswer.{RunAnswer}
 
@@ -81,9 +80,9 @@ run_text arenas scratch t = run_whole (emptied arenas scratch) (whole t)
 -- ---- `run`
 
 -- the ending in the paper's numbers
-abbrev pub ending_of : RunEnding → Ending
-ending_of (run-ending.Done k) = AtEnd k
-ending_of (run-ending.Refused r step) = RefusedAt (refusal_number r) step
+abbrev pub ending_of : Result ℕ Stop → Ending
+ending_of (Ok k) = AtEnd k
+ending_of (Err s) = RefusedAt (refusal_number s.refusal) s.step
 
 -- all that `run` leaves: the memory, its text at the front of the buffer, whose further bytes stay, and how it ended
 pub record Final : Type 0 where

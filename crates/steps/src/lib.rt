@@ -16,29 +16,29 @@ use unchecked::run_steps;
 
 pub mod unchecked;
 
-// How a run ended: with every step run, and how many that are, or by a refusal at a step, counted from 1; 0 is the text or an input.
+// What stopped a run: the refusal, and the step that was refused, counted from 1; 0 is the text or an input.
 #[derive(Clone, Copy)]
-pub enum RunEnding {
-    Done(u32),
-    Refused(Refusal, u32),
+pub struct Stop {
+    pub refusal: Refusal,
+    pub step: u32,
 }
 
 // What a pass over steps leaves: the four arrays of the cells, how many are filled, how many bytes were written at the front of the
-// buffer, and how it ended.
+// buffer, and how it ended: how many steps were run, which are all of them, or what stopped it.
 #[derive(Clone, Copy)]
 pub struct Pass {
     pub fields: Fields,
     pub count: usize,
     pub length: usize,
-    pub ending: RunEnding,
+    pub ending: Result<u32, Stop>,
 }
 
-// The store that a run leaves, how many bytes it wrote at the front of the buffer, and how it ended.
+// The store that a run leaves, how many bytes it wrote at the front of the buffer, and how it ended, as in a pass.
 #[derive(Clone, Copy)]
 pub struct RunAnswer {
     pub store: Store,
     pub length: usize,
-    pub ending: RunEnding,
+    pub ending: Result<u32, Stop>,
 }
 
 // Runs the step list that stands in `text`, from an empty store. The buffer has room for the lines of 256 steps of 4,096 bits and of a
@@ -60,26 +60,22 @@ pub fn run(
         (buffer out.old 0) }
 {
     let l = load_list(text, av, au);
-    let inputs = l.inputs;
-    let verdict = inputs.verdict;
-    match verdict {
-        Err(r) => {
-            let f = inputs.fields;
-            let n = u8::from(r) as u32;
+    match l.list {
+        Err(refusal) => {
+            let f = l.inputs.fields;
             RunAnswer {
-                store: store_of(inputs.count, &f.starts, &f.widths, &f.signs, &f.fills),
-                length: put_refused(out, 0, n, 0),
-                ending: RunEnding::Refused(r, 0),
+                store: store_of(l.inputs.count, &f.starts, &f.widths, &f.signs, &f.fills),
+                length: put_refused(out, 0, u32::from(u8::from(refusal)), 0),
+                ending: Err(Stop { refusal, step: 0 }),
             }
         }
-        Ok(()) => {
-            let p = run_steps(l.list, inputs, av, au, sv, su, out);
-            let g = p.fields;
-            let ending = p.ending;
+        Ok(list) => {
+            let p = run_steps(list, l.inputs, av, au, sv, su, out);
+            let f = p.fields;
             RunAnswer {
-                store: store_of(p.count, &g.starts, &g.widths, &g.signs, &g.fills),
+                store: store_of(p.count, &f.starts, &f.widths, &f.signs, &f.fills),
                 length: p.length,
-                ending: ending,
+                ending: p.ending,
             }
         }
     }

@@ -8,7 +8,7 @@ ghost use Rattle.steplist.specs.Answers.{steps_in};
 ghost use Rattle.load.specs.Limits.{Fitted};
 ghost use Rattle.steps.specs.Run.{run_steps, final_of, pass_by};
 
-use crate::{Pass, RunEnding};
+use crate::{Pass, Stop};
 use load::Inputs;
 use refusal::Refusal;
 use run_lines::unchecked::{put_done, put_refused, put_step};
@@ -44,24 +44,29 @@ pub fn run_steps(
         return Pass {
             fields: f,
             count: n,
-            length: put_refused(out, 0, u8::from(Refusal::BadStore) as u32, 1),
-            ending: RunEnding::Refused(Refusal::BadStore, 1),
+            length: put_refused(out, 0, u32::from(u8::from(Refusal::BadStore)), 1),
+            ending: Err(Stop {
+                refusal: Refusal::BadStore,
+                step: 1,
+            }),
         };
     }
     let mut at = 0;
-    let mut k = 0;
-    while k < list.step_count {
+    for k in 0..list.step_count {
         let step = list.steps[k];
         match take_step(
             step, n, next, &f.starts, &f.widths, &f.signs, &f.fills, av, au, sv, su,
         ) {
-            Err(r) => {
+            Err(refusal) => {
                 let number = k as u32 + 1;
                 return Pass {
                     fields: f,
                     count: n,
-                    length: put_refused(out, at, u8::from(r) as u32, number),
-                    ending: RunEnding::Refused(r, number),
+                    length: put_refused(out, at, u32::from(u8::from(refusal)), number),
+                    ending: Err(Stop {
+                        refusal,
+                        step: number,
+                    }),
                 };
             }
             Ok(c) => {
@@ -75,13 +80,12 @@ pub fn run_steps(
                 n += 1;
             }
         }
-        k += 1;
     }
-    let done = k as u32;
+    let done = list.step_count as u32;
     Pass {
         fields: f,
         count: n,
         length: put_done(out, at, done),
-        ending: RunEnding::Done(done),
+        ending: Ok(done),
     }
 }

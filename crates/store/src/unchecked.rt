@@ -1,5 +1,5 @@
 // A store with one cell more, and an input and a step taken where store and arenas agree.
-ghost use Rattle.std.specs.Prelude.{◌≡◌, ◌≤◌, ◌<◌, length};
+ghost use Rattle.std.specs.Prelude.{◌≡◌, ◌≤◌, ◌<◌, length, IfOk};
 ghost use Rattle.refusal.specs.Outcome.{outcome, answer};
 ghost use Rattle.words.specs.Planes.{lent_by};
 ghost use Rattle.cells.specs.Places.{fields_by};
@@ -70,13 +70,14 @@ pub fn take_step<'a>(
     su: &mut [u64],
 ) -> Result<Cell, Refusal>
     requires { Laid (fields_by starts.now widths.now signs.now fills.now) count next (lent_by av.old au.old) }
-    ensures { outcome (taken_answer count result)
+    ensures taken { outcome (taken_answer count result)
         (memory_by (taken_store result (store_by count starts.now widths.now signs.now fills.now))
         av.new au.new sv.new su.new)
         ≡ add_step
         (memory_by (store_by count starts.now widths.now signs.now fills.now)
         av.old au.old sv.old su.old)
         step }
+    ensures few { IfOk result (λ _. count < 320) }
 {
     let room = Room {
         arena: av.len(),

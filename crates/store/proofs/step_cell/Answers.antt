@@ -27,11 +27,6 @@ module _ (s : Store) (f : Fields) (places : length s.cells ≡ 320) (e : f ≡ f
   laid : (a : Planes) (k : ℕ) → agrees (state s a) ≡ true → next_word s ≡ k → Laid f s.count k a
   laid a k h w = record { agreed = subst (λ (z : Store). agrees (state z a) ≡ true) same h; words = sym w ∙ ap next_word same }
 
-few : (m : Memory) → length m.state.store.cells ≡ 320 → (step : Step) (x : Result Cell Refusal) (n : Memory)
-    → outcome (taken_answer m.state.store.count x) n ≡ add_step m step → IfOk x (λ _. m.state.store.count < 320)
-few m places step (Ok c) n e = step-few m n step m.state.store.count places e
-few m places step (Err r) n e = tt
-
 pub take_step-requires : goal.take_step-requires
 take_step-requires c =
     let a = c.args in
@@ -46,11 +41,4 @@ returns-clause-taken c =
     let e = same a.s.now c.fields_of-f.result (omega (arith, c.well_formed)) c.fields_of-f.ensures in
     subst (λ (z : Store). outcome (taken_answer a.s.now.count t.result)
     (memory_by (taken_store t.result z) t.new.av t.new.au t.new.sv t.new.su)
-    ≡ add_step (memory_by z a.av.now a.au.now a.sv.now a.su.now) a.step) (sym e) t.ensures
-
-pub returns-clause-few : goal.returns-clause-few
-returns-clause-few c =
-    let a = c.args in
-    let t = c.take_step in
-    few (memory_by a.s.now a.av.now a.au.now a.sv.now a.su.now) (omega (arith, c.well_formed)) a.step t.result
-    (memory_by (taken_store t.result a.s.now) t.new.av t.new.au t.new.sv t.new.su) (returns-clause-taken c)
+    ≡ add_step (memory_by z a.av.now a.au.now a.sv.now a.su.now) a.step) (sym e) t.ensures.taken

@@ -170,6 +170,7 @@ returns-clause-au_value c =
     let a = c.args in
     let o = c.loop-i in
     let e : o.i ≡ a.list.input_count = omega (arith, c.loop-i-test.false, o.auto.i-end) in
-    subst (λ (n : ℕ). outcome (given tt) (state (store_of n o.f) (lent_by o.av o.au)) ≡ add_inputs (state empty_store (lent_by a.av.now a.au.now)) (tabulate a.list.input_count (input a.text.now a.list))) e
+    subst (λ (n : ℕ). outcome (given tt) (state (store_of n o.f) (lent_by o.av o.au))
+    ≡ add_inputs (state empty_store (lent_by a.av.now a.au.now)) (tabulate a.list.input_count (input a.text.now a.list))) e
     (feed-done a.list.input_count (input a.text.now a.list) (state empty_store (lent_by a.av.now a.au.now))
     (state (store_of o.i o.f) (lent_by o.av o.au)) o.i o.invariant.fed c.loop-i-test.false)

@@ -19,5 +19,7 @@ abbrev pub invariant-loop-i : goal.invariant-loop-i
 invariant-loop-i l = record {
   level : 0 < l.list.input_count → length l.av ≡ length l.au;
   fitted : Fitted l.f l.i l.next (lent l.av l.au);
-  fed : Fed (state empty_store (lent l.initial.av l.initial.au)) l.list.input_count (input l.text l.list) (state (store_of l.i l.f) (lent l.av l.au)) l.i;
+  fed :
+      Fed (state empty_store (lent l.initial.av l.initial.au)) l.list.input_count (input l.text l.list)
+      (state (store_of l.i l.f) (lent l.av l.au)) l.i;
 }

@@ -46,7 +46,8 @@ pub copy_behind-requires-clause-n_in_bounds : goal.copy_behind-requires-clause-n
 copy_behind-requires-clause-n_in_bounds c =
     let a = c.args in
     let p =
-    planned a.count a.next a.h (lent_by a.value.now a.unknown.now) (lent_by a.av.now a.au.now) c.check_vector-checked.result c.plan_input.result
+    planned a.count a.next a.h (lent_by a.value.now a.unknown.now) (lent_by a.av.now a.au.now) c.check_vector-checked.result
+    c.plan_input.result
     c.in_ok-at.at c.check_vector-checked.ensures c.plan_input.ensures c.in_ok-at.was in
     let s = p.sound.planes in
     (omega (arith, s.value-plane.count), omega (arith, s.unknown-plane.count))
@@ -61,14 +62,20 @@ returns c =
     c.in_ok-at.at c.check_vector-checked.ensures c.plan_input.ensures c.in_ok-at.was in
     let q = p.sound.planes in
     let n : c.word_count.result ≡ word_count a.h.width = c.word_count.ensures in
-    let value : take c.word_count.result input.value ≡ input.value = take_all c.word_count.result input.value (omega (arith, n, q.value-plane.count)) in
+    let value : take c.word_count.result input.value ≡ input.value = take_all c.word_count.result input.value (omega (
+      arith,
+      n,
+      q.value-plane.count,
+    )) in
     let unknown : take c.word_count.result input.unknown ≡ input.unknown =
     take_all c.word_count.result input.unknown (omega (arith, n, q.unknown-plane.count)) in
-    let again = planes-again a.h.width input.value input.unknown q.value-plane q.unknown-plane (λ i. (c.type_inv.value i).fits) (λ i. (c.type_inv.unknown i).fits) in
+    let again = planes-again a.h.width input.value input.unknown q.value-plane q.unknown-plane (λ i. (c.type_inv.value i).fits) (λ i.
+    (c.type_inv.unknown i).fits) in
     let e =
     c.copy_behind.ensures
     ∙ ap₂ (λ (v u : List ℕ). put_planes c.in_ok-at.at (lent v u) arenas) value unknown
     ∙ ap (λ (x : Planes). put_planes c.in_ok-at.at x arenas) again in
     ap (outcome (given c.in_ok-at.at)) e
     ∙ ap (λ (i : ℕ). outcome (given i) (put_planes i (planes_of (vector_of a.h.width input)) arenas)) (sym p.begins)
-    ∙ sym (ap (λ (x : Answer Unit). or_refuse x arenas (outcome (given a.next) (put_planes a.next (planes_of (vector_of a.h.width input)) arenas))) p.accepted)
+    ∙ sym (ap (λ (x : Answer Unit). or_refuse x arenas (outcome (given a.next) (put_planes a.next (planes_of (vector_of a.h.width input))
+    arenas))) p.accepted)
