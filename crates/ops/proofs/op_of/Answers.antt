@@ -29,7 +29,7 @@ beyond m n l (op ∷ ops) t =
 
 pub returns-then-code-lt17 : goal.returns-then-code-lt17
 unfolding tabulate with_code
-returns-then-code-lt17 c = get_d_tabulate 17 op_of c.args.code _ c.if-code-lt17.true
+returns-then-code-lt17 c = rw (← get_d_tabulate 17 op_of c.args.code None c.if-code-lt17.true)
 
 pub returns-else-code-lt17 : goal.returns-else-code-lt17
-returns-else-code-lt17 c = beyond 17 c.args.code c.if-code-lt17.false all_ops tt
+returns-else-code-lt17 c = rw (← beyond 17 c.args.code c.if-code-lt17.false all_ops tt)
