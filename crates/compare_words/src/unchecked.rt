@@ -164,7 +164,7 @@ pub fn scan_extents(
     let mut mismatch = None;
     'words: for k in pass_same(av, au, bv, bu, n)..count {
         let m = marks_at(op, a, av, au, b, bv, bu, width, n, k);
-        // A while: it ends with the word's last mismatch, not at a count.
+        // A `while`: it goes on up to the word's first mismatch, not to a count.
         let mut bits = m.apart;
         let mut j = 0;
         while bits != 0 {

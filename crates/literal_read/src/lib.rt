@@ -86,7 +86,7 @@ fn follows(c: u8, below: u64, unknown: bool) -> bool
     digit_below(c, below) || (unknown && is_unknown(c)) || c == b'_'
 }
 
-// Whether each character from a place on is one of these.
+// Whether each character from a place on may follow so.
 fn only_digits(s: &[u8], from: usize, below: u64, unknown: bool) -> bool
     ensures { result ≡ each (follows below unknown) (drop from s.now) }
 {

@@ -1,5 +1,5 @@
-// The value of a sized literal (IEEE 1800-2017, 5.7.1): what its characters stand for. A base is its letter, as a number:
-// `radix`, `is_decimal` and `fill_planes`, which docs/PROMISES.md names, take any.
+// The value of a sized literal (IEEE 1800-2017, 5.7.1): what its characters stand for. A base is its letter:
+// `radix`, `is_decimal` and `fill_planes`, which docs/PROMISES.md names, take any byte for one.
 #![tactic(auto)]
 
 ghost use Rattle.std.specs.Prelude.{◌≡◌, [], ◌∷◌};
