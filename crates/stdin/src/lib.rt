@@ -17,6 +17,7 @@ pub fn read_all<R: Read>(input: &mut R, buf: &mut [u8]) -> io::Result<usize>
     ensures kept { length buf.new ≡ length buf.old }
 {
     let mut done = 0;
+    // A `while`: each turn goes on by as many bytes as the read gave.
     while done < buf.len() {
         let more = input.read(&mut buf[done..])?;
         if more == 0 {
