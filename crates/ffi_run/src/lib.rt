@@ -8,30 +8,11 @@ ghost use Rattle.lines.specs.Buffer.{buffer};
 ghost use Rattle.steps.specs.Run.{ending_of, run_text, final_of};
 ghost use Rattle.cells.specs.Places.{fields_by};
 ghost use Rattle.store_abi.specs.Settled.{settled, crossed};
-ghost use Rattle.ffi_run.specs.Crossing.{end_number, end_step, saved_fields, crossed_run};
+ghost use Rattle.ffi_run.specs.Crossing.{run_result, saved_fields, crossed_run};
 
-use steps::{RunAnswer, RunEnding};
+use refusal::Refusal;
+use steps::RunAnswer;
 use store_abi::save;
-
-// 0 where every step was run, or the refusal's number.
-fn end_number(e: RunEnding) -> u8
-    ensures { result ≡ end_number (ending_of e) }
-{
-    match e {
-        RunEnding::Done(_) => 0,
-        RunEnding::Refused(r, _) => u8::from(r),
-    }
-}
-
-// How many steps were run, or the step that was refused.
-fn end_step(e: RunEnding) -> u32
-    ensures { result ≡ end_step (ending_of e) }
-{
-    match e {
-        RunEnding::Done(k) => k,
-        RunEnding::Refused(_, k) => k,
-    }
-}
 
 // Writes the four arrays of the store that a run leaves; a list that was refused whole leaves them as they were.
 fn save_run(
@@ -45,7 +26,7 @@ fn save_run(
         ≡ saved_fields (ending_of r.ending) r.store (fields_by starts.old widths.old signs.old fills.old) }
 {
     let e = r.ending;
-    if end_number(e) == 6 {
+    if e.is_err_and(|stop| stop.refusal == Refusal::BadFormat) {
         return;
     }
     save(r.store, starts, widths, signs, fills);
@@ -60,6 +41,23 @@ pub struct RunResult {
     pub length: usize,
     pub refusal: u8,
     pub step: u32,
+}
+
+impl From<RunAnswer> for RunResult {
+    ghost from_gives = { λ r n. n ≡ run_result r.store r.length (ending_of r.ending) };
+
+    fn from(r: RunAnswer) -> RunResult {
+        let (refusal, step) = match r.ending {
+            Ok(steps) => (0, steps),
+            Err(stop) => (u8::from(stop.refusal), stop.step),
+        };
+        RunResult {
+            count: r.store.count,
+            length: r.length,
+            refusal,
+            step,
+        }
+    }
 }
 
 // `steps::run` from an empty store; the four arrays get the store that it leaves, unless the text is no step list
@@ -98,12 +96,5 @@ pub extern "C" fn vowherunga_run(
         out,
     );
     save_run(r, starts, widths, signs, fills);
-    let s = r.store;
-    let ending = r.ending;
-    RunResult {
-        count: s.count,
-        length: r.length,
-        refusal: end_number(ending),
-        step: end_step(ending),
-    }
+    RunResult::from(r)
 }

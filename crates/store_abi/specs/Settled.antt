@@ -12,6 +12,11 @@ use Rattle.store_abi.specs.declared.CellResult.{CellResult}
 abbrev pub no_such_op : ℕ
 no_such_op = 255
 
+-- the answer of a call that adds a cell: 0 and the new cell's number; or the refusal's number and 0
+abbrev pub coded_cell : Answer ℕ → CellResult
+coded_cell (given n) = record { refusal = 0; cell = n }
+coded_cell (refused n) = record { refusal = n; cell = 0 }
+
 -- a result in numbers, and the fields as the call leaves them
 pub record Settled (R : Type 0) : Type 0 where
   pub result : R
@@ -21,10 +26,10 @@ module _ {R : Type 0} where
   abbrev pub settled : R → Fields → Settled R
   settled r f = record { result = r; fields = f }
 
--- a call that adds a cell: 0 and the new cell's number, with the fields of the store; or the refusal's number and 0, with the fields as they were
+-- the answer with the fields of the store; or the refusal with the fields as they were
 abbrev pub settled_by : Answer ℕ → Store → Fields → Settled CellResult
-settled_by (given n) s f = settled (record { refusal = 0; cell = n }) (fields_of s.cells)
-settled_by (refused n) s f = settled (record { refusal = n; cell = 0 }) f
+settled_by (given n) s f = settled (coded_cell (given n)) (fields_of s.cells)
+settled_by (refused n) s f = settled (coded_cell (refused n)) f
 
 -- the result and the fields, and all else that is lent as the call leaves it
 pub record Crossed (R L : Type 0) : Type 0 where

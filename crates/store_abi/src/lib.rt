@@ -4,8 +4,9 @@
 ghost use Rattle.std.specs.Prelude.{◌≡◌};
 ghost use Rattle.refusal.specs.Outcome.{answer};
 ghost use Rattle.cells.specs.Places.{fields_by, fields_of};
-ghost use Rattle.store_abi.specs.Settled.{settled, settled_by};
+ghost use Rattle.store_abi.specs.Settled.{coded_cell, settled, settled_by};
 
+use refusal::Refusal;
 use store::{Store, Stored, fields_of};
 
 // 0 where the call was done, and then the number of the new cell.
@@ -14,6 +15,20 @@ use store::{Store, Stored, fields_of};
 pub struct CellResult {
     pub refusal: u8,
     pub cell: usize,
+}
+
+impl From<Result<usize, Refusal>> for CellResult {
+    ghost from_gives = { λ a r. r ≡ coded_cell (answer a) };
+
+    fn from(a: Result<usize, Refusal>) -> CellResult {
+        match a {
+            Ok(cell) => CellResult { refusal: 0, cell },
+            Err(r) => CellResult {
+                refusal: u8::from(r),
+                cell: 0,
+            },
+        }
+    }
 }
 
 // Writes the four arrays of a store.
@@ -27,6 +42,7 @@ pub fn save(
     ensures { fields_by starts.new widths.new signs.new fills.new ≡ fields_of s.cells }
 {
     let f = fields_of(s);
+    // An array that is a field cannot be stored without a variable.
     let a = f.starts;
     *starts = a;
     let b = f.widths;
@@ -48,18 +64,8 @@ pub fn settle(
     ensures { settled result (fields_by starts.new widths.new signs.new fills.new)
         ≡ settled_by (answer r.answer) r.store (fields_by starts.old widths.old signs.old fills.old) }
 {
-    let answer = r.answer;
-    match answer {
-        Err(x) => CellResult {
-            refusal: u8::from(x),
-            cell: 0,
-        },
-        Ok(n) => {
-            save(r.store, starts, widths, signs, fills);
-            CellResult {
-                refusal: 0,
-                cell: n,
-            }
-        }
+    if r.answer.is_ok() {
+        save(r.store, starts, widths, signs, fills);
     }
+    CellResult::from(r.answer)
 }
