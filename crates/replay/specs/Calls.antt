@@ -1,5 +1,5 @@
 -- The call of a line of a table (the head of src/lib.rt): its number by its name, and which calls are read.
-use Rattle.std.specs.Prelude.{ℕ, zero, suc, Bool, true, false, cond, ◌&&◌, List, [], ◌∷◌, ◌++◌, ◌==◌, nat_le}
+use Rattle.std.specs.Prelude.{ℕ, zero, suc, Bool, true, false, cond, ◌&&◌, Option, Some, None, List, [], ◌∷◌, ◌++◌, ◌==◌, nat_le}
 use Prim.Native.Char.{code}
 use Rattle.replay.specs.Text.{part_of, field_text}
 use Rattle.text.specs.Read.{bytes}
@@ -12,10 +12,10 @@ same_text [] (b ∷ t) = false
 same_text (a ∷ s) [] = false
 same_text (a ∷ s) (b ∷ t) = a == b && same_text s t
 
--- the number of the first of n names, from number k on, that is t; k + n where none is. A space is between names
-unfoldable pub name_from : ℕ → ℕ → List ℕ → List ℕ → ℕ
-name_from k zero names t = k
-name_from k (suc n) names t = cond (same_text (part_of (code " ") k names) t) k (name_from (suc k) n names t)
+-- the number of the first of n names, from number k on, that is t, if one is. A space is between names
+unfoldable pub name_from : ℕ → ℕ → List ℕ → List ℕ → Option ℕ
+name_from k zero names t = None
+name_from k (suc n) names t = cond (same_text (part_of (code " ") k names) t) (Some k) (name_from (suc k) n names t)
 
 -- the names of the calls, by their numbers from 0 on
 abbrev pub call_names : List ℕ
@@ -28,6 +28,6 @@ call_names =
 abbrev pub fits_in : ℕ → ℕ → List ℕ → Bool
 fits_in k n line = nat_le (sizes_of (field_text k line)).value n && nat_le (sizes_of (field_text k line)).unknown n
 
--- the number of the call, which field 2 names; 29, which is none, where a vector asks for more words than a program lends
-unfoldable pub call_of : List ℕ → ℕ
-call_of line = cond (fits_in 3 16385 line && (fits_in 4 65 line && fits_in 5 65 line)) (name_from 0 29 call_names (field_text 2 line)) 29
+-- the number of the call, which field 2 names; none where a vector asks for more words than a program lends
+unfoldable pub call_of : List ℕ → Option ℕ
+call_of line = cond (fits_in 3 16385 line && (fits_in 4 65 line && fits_in 5 65 line)) (name_from 0 29 call_names (field_text 2 line)) None

@@ -30,8 +30,7 @@
 // number is taken modulo 2^64, a width modulo 2^32, and an empty number is 0. A character that is none of 0 1 x z is the bit 0. A field
 // with an `r` in it is taken for a real, which has no planes and is negative if there is a minus in it, and one with a `!` in it for a
 // refusal. Field 1 and fields behind those of the call are not read. A name that is none, and a call whose first operand asks for more
-// than 16,385 words or another for more than 65, has the number 29 of no call. Of what a call leaves 65 words are told, and zeros behind
-// them.
+// than 16,385 words or another for more than 65, is no call. Of what a call leaves 65 words are told, and zeros behind them.
 #![tactic(auto)]
 
 mod parse;

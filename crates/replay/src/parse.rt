@@ -1,80 +1,44 @@
 // The parts of a line, numbers, reals and vectors as text.
-ghost use Rattle.std.specs.Prelude.{◌≡◌, ◌≤◌, max, cond, length, drop, slice_index};
+ghost use Rattle.std.specs.Prelude.{◌≡◌, ◌≤◌, cond, length, slice_index};
 ghost use Rattle.words.specs.Vector.{at};
 ghost use Rattle.words.specs.Planes.{word_at};
-ghost use Rattle.replay.specs.Text.{before, place_from, has as has_byte, part_of, bare_of, decimal_of};
+ghost use Rattle.replay.specs.Text.{has as has_byte, part_of, bare_of, decimal_of};
 ghost use Rattle.replay.specs.Calls.{name_from, call_names, fits_in};
 ghost use Rattle.replay.specs.Fields.{bit_characters, bits_of, sized as sized_by, sizes_of, real_told, loaded};
 
-use check::same;
 use text::unchecked::read_word;
 use value::Header;
 use words::Word;
-use words::unchecked::least;
-
-// The place of the first such byte from a place on, or the end.
-pub(crate) fn until(s: &[u8], at: usize, byte: u8) -> usize
-    ensures { (result ≡ place_from byte s.now at) × (result ≤ max at (length s.now)) }
-{
-    let mut i = at;
-    while i < s.len() {
-        if s[i] == byte {
-            return i;
-        }
-        i += 1;
-    }
-    i
-}
 
 // Whether such a byte stands in a text.
 pub(crate) fn has(s: &[u8], byte: u8) -> bool
     ensures { result ≡ has_byte byte s.now }
 {
-    until(s, 0, byte) < s.len()
+    s.contains(&byte)
 }
 
-// Where part k starts, if that byte stands between parts; the end where there are fewer.
-fn start(s: &[u8], k: usize, byte: u8) -> usize
-    ensures { (result ≤ length s.now) × (part_of byte k s.now ≡ before byte (drop result s.now)) }
-{
-    let mut at = 0;
-    let mut i = 0;
-    while i < k {
-        at = until(s, at, byte);
-        if at == s.len() {
-            return at;
-        }
-        at += 1;
-        i += 1;
-    }
-    at
-}
-
-// Part k, from 0; empty where there are fewer.
+// Part k, from 0, if that byte stands between parts; empty where there are fewer.
 pub(crate) fn part(s: &[u8], k: usize, byte: u8) -> &[u8]
     ensures { result.now ≡ part_of byte k s.now }
 {
-    let a = start(s, k, byte);
-    let e = until(s, a, byte);
-    &s[a..e]
+    s.split(|c| *c == byte).nth(k).unwrap_or(&[])
 }
 
-// The number of a name among n names that have a space between them, or n.
-fn number_in(names: &[u8], n: usize, name: &[u8]) -> usize
+// The number of a name among n names that have a space between them.
+#[tactic(auto, using(crate::proofs::Names::name_here, crate::proofs::Names::name_behind, crate::proofs::Names::no_name))]
+fn number_in(names: &[u8], n: usize, name: &[u8]) -> Option<usize>
     ensures { result ≡ name_from 0 n names.now name.now }
 {
-    let mut k = 0;
-    while k < n {
-        if same(part(names, k, b' '), name) {
-            return k;
+    for k in 0..n {
+        if part(names, k, b' ') == name {
+            return Some(k);
         }
-        k += 1;
     }
-    n
+    None
 }
 
-// The number of a call: the place of its name here, or the count of names.
-pub(crate) fn number_of(name: &[u8]) -> usize
+// The number of a call: the place of its name here.
+pub(crate) fn number_of(name: &[u8]) -> Option<usize>
     ensures { result ≡ name_from 0 29 call_names name.now }
 {
     number_in(
@@ -91,11 +55,8 @@ pub(crate) fn decimal(s: &[u8]) -> u64
     ensures { result ≡ decimal_of s.now }
 {
     let mut n: u64 = 0;
-    let mut i = 0;
-    while i < s.len() {
-        let tenfold = std::num::wrapping_add_u64(n << 3, n << 1);
-        n = std::num::wrapping_add_u64(tenfold, (s[i] % 16) as u64);
-        i += 1;
+    for c in s {
+        n = n.wrapping_mul(10).wrapping_add(u64::from(*c % 16));
     }
     n
 }
@@ -104,7 +65,7 @@ pub(crate) fn decimal(s: &[u8]) -> u64
 pub(crate) fn word(bits: &[u8]) -> Word
     ensures { result ≡ word_at (at (bits_of bits.now)) 0 }
 {
-    let n = least(64, bits.len());
+    let n = bits.len().min(64);
     read_word(bits, bits.len() - n, n)
 }
 
@@ -122,13 +83,11 @@ pub(crate) fn load(bits: &[u8], is_unknown: bool, plane: &mut [u64], n: usize)
         ≡ loaded is_unknown (bits_of bits.now) n plane.old }
 {
     let mut left = bits.len();
-    let mut k = 0;
-    while k < n {
-        let m = least(64, left);
+    for k in 0..n {
+        let m = left.min(64);
         left -= m;
         let w = read_word(bits, left, m);
         plane[k] = word_of(w, is_unknown);
-        k += 1;
     }
 }
 
@@ -136,25 +95,20 @@ pub(crate) fn load(bits: &[u8], is_unknown: bool, plane: &mut [u64], n: usize)
 pub(crate) fn bare(s: &[u8]) -> &[u8]
     ensures { result.now ≡ bare_of s.now }
 {
-    if s.len() == 0 {
-        return s;
+    match s.split_first() {
+        Some((mark, rest)) if has(b"usfgr-!", *mark) => rest,
+        _ => s,
     }
-    if has(b"usfgr-!", s[0]) {
-        return &s[1..];
-    }
-    s
 }
 
 // A real: `r`, maybe a minus, and a quotient of two numbers, as r-5/2.
+#[tactic(auto, unfolding(crate::specs::Fields::real_told))]
 pub(crate) fn real(s: &[u8]) -> f64
     ensures { result ≡ real_told s.now }
 {
     let n = std::num::nearest_u64_to_f64(decimal(part(bare(bare(s)), 0, b'/')));
     let d = std::num::nearest_u64_to_f64(decimal(part(s, 1, b'/')));
-    if has(s, b'-') {
-        return -n / d;
-    }
-    n / d
+    if has(s, b'-') { -n / d } else { n / d }
 }
 
 // A vector's header and how many words each plane has.
@@ -169,10 +123,7 @@ pub(crate) struct Sizes {
 fn letter_of(s: &[u8]) -> u8
     ensures { result ≡ slice_index s.now 0 }
 {
-    if s.len() == 0 {
-        return 0;
-    }
-    s[0]
+    s.first().copied().unwrap_or(0)
 }
 
 // A header by the letter in front, and how many words each plane has.
@@ -186,12 +137,13 @@ fn sized(s: &[u8], width: u64, value: usize, unknown: usize) -> Sizes
             is_signed: (letter == b's') | (letter == b'g'),
             is_fill: (letter == b'f') | (letter == b'g'),
         },
-        value: value,
-        unknown: unknown,
+        value,
+        unknown,
     }
 }
 
 // A vector without a colon is its bits alone; a real has no planes.
+#[tactic(auto, unfolding(crate::specs::Fields::sizes_of))]
 pub(crate) fn sizes_of(s: &[u8]) -> Sizes
     ensures { result ≡ sizes_of s.now }
 {
@@ -210,14 +162,16 @@ pub(crate) fn sizes_of(s: &[u8]) -> Sizes
 }
 
 // The characters of a vector's bits.
+#[tactic(auto, unfolding(crate::specs::Fields::bit_characters))]
 pub(crate) fn bits_of(s: &[u8]) -> &[u8]
     ensures { result.now ≡ bit_characters s.now }
 {
     let vector = bare(s);
     if has(vector, b':') {
-        return part(vector, 3, b':');
+        part(vector, 3, b':')
+    } else {
+        vector
     }
-    vector
 }
 
 // Whether planes of n words have as many as field k of a line asks for.
@@ -225,5 +179,5 @@ pub(crate) fn fits(line: &[u8], k: usize, n: usize) -> bool
     ensures { result ≡ fits_in k n line.now }
 {
     let e = sizes_of(part(line, k, b' '));
-    (e.value <= n) & (e.unknown <= n)
+    e.value <= n && e.unknown <= n
 }

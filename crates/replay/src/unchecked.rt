@@ -8,13 +8,12 @@ ghost use Rattle.replay.specs.Calls.{call_of};
 ghost use Rattle.replay.specs.Report.{table_in, table_told, line_told, total_told};
 
 use crate::parse::{
-    bare, bits_of, decimal, fits, has, load, number_of, part, real, sizes_of, until, word,
+    bare, bits_of, decimal, fits, has, load, number_of, part, real, sizes_of, word,
 };
 use agreement::{Field, same_words};
 use std::io;
 use std::io::{Read, Write};
 use stdin::read_all;
-use words::unchecked::least;
 
 // The table in a file, if it is shorter than the buffer, and else an empty one: how many bytes it has. That it is too long is written out.
 pub fn table<R: Read, W: Write>(file: &mut R, s: &mut [u8], out: &mut W) -> io::Result<usize>
@@ -36,27 +35,28 @@ pub fn table<R: Read, W: Write>(file: &mut R, s: &mut [u8], out: &mut W) -> io::
 pub fn line_end(s: &[u8], at: usize) -> usize
     ensures { (result ≡ place_from 10 s.now at) × (result ≤ max at (length s.now)) }
 {
-    until(s, at, b'\n')
+    let rest = &s[at.min(s.len())..];
+    match rest.iter().position(|c| *c == b'\n') {
+        Some(n) => at + n,
+        None => at.max(s.len()),
+    }
 }
 
-// The number of the call of a line, by its place in `parse::number_of`. It is 29, which is none, where the name is none, and where a
-// vector asks for more words than are lent: 16,385 for the first operand, 65 for the others.
-pub fn call_of(line: &[u8]) -> usize
+// The number of the call of a line, by its place in `parse::number_of`. There is none where the name is none, and where a vector asks for
+// more words than are lent: 16,385 for the first operand, 65 for the others.
+#[tactic(auto, unfolding(crate::specs::Calls::call_of))]
+pub fn call_of(line: &[u8]) -> Option<usize>
     ensures { result ≡ call_of line.now }
 {
-    if !fits(line, 3, 16385) {
-        return 29;
+    if fits(line, 3, 16385) && fits(line, 4, 65) && fits(line, 5, 65) {
+        number_of(part(line, 2, b' '))
+    } else {
+        None
     }
-    if !fits(line, 4, 65) {
-        return 29;
-    }
-    if !fits(line, 5, 65) {
-        return 29;
-    }
-    number_of(part(line, 2, b' '))
 }
 
 // A field in each way that its text can be meant; of its planes m and n words are lent.
+#[tactic(auto, unfolding(crate::specs::Fields::field_of))]
 fn meant(s: &[u8], m: usize, n: usize) -> Field
     ensures { result ≡ field_of s.now m n }
 {
@@ -75,6 +75,7 @@ fn meant(s: &[u8], m: usize, n: usize) -> Field
 }
 
 // Field k of a line; a vector's planes are written to the lent ones, as far as those reach.
+#[tactic(auto, using(crate::proofs::Readings::together))]
 pub fn field(line: &[u8], k: usize, value: &mut [u64], unknown: &mut [u64]) -> Field
     ensures unknown_value { reading result value.new unknown.new
         ≡ read_field k line.now (lent_by value.old unknown.old) }
@@ -82,8 +83,8 @@ pub fn field(line: &[u8], k: usize, value: &mut [u64], unknown: &mut [u64]) -> F
 {
     let s = part(line, k, b' ');
     let e = sizes_of(s);
-    let m = least(e.value, value.len());
-    let n = least(e.unknown, unknown.len());
+    let m = e.value.min(value.len());
+    let n = e.unknown.min(unknown.len());
     let bits = bits_of(s);
     load(bits, false, value, m);
     load(bits, true, unknown, n);
@@ -102,13 +103,15 @@ fn left_at(line: &[u8], out: usize) -> usize
     ensures { result ≡ left_at out line.now }
 {
     if has(part(line, 0, b' '), b'!') {
-        return out;
+        out
+    } else {
+        0
     }
-    0
 }
 
 // Whether planes hold what the answer of a line leaves there: its bits or, where it is a refusal, those of field `out`. Of these 65 words
 // are read, and planes that are longer hold zeros behind them.
+
 pub fn are_left(line: &[u8], out: usize, value: &[u64], unknown: &[u64]) -> bool
     ensures { result ≡ are_left out line.now (lent_by value.now unknown.now) }
 {
@@ -116,10 +119,7 @@ pub fn are_left(line: &[u8], out: usize, value: &[u64], unknown: &[u64]) -> bool
     let mut v = [0u64; 65];
     let mut u = [0u64; 65];
     field(line, k, &mut v, &mut u);
-    if !same_words(value, &v) {
-        return false;
-    }
-    same_words(unknown, &u)
+    same_words(value, &v) && same_words(unknown, &u)
 }
 
 // Writes a line out if it differs, and else if it is to be shown; gives on whether it agrees.

@@ -1,9 +1,9 @@
 // The calls of operators whose answer is a bit, by their numbers in `replay`.
-use refusal::Refusal;
 use abi::{BitResult, bit_result, operand, truth_result};
 use agreement::{Field, is_bit};
 use fourstate::vectors::Header;
 use fourstate::{comparisons, reductions};
+use refusal::Refusal;
 use replay::unchecked::{field, plain};
 
 // An answer bit of one operand.

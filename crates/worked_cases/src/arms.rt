@@ -1,9 +1,9 @@
 // The call that hands back the arm that a condition picks.
-use refusal::Refusal;
 use abi::operand;
 use agreement::same_words;
 use fourstate::arms::chosen_arm;
 use fourstate::reductions::{Truth, is_nonzero};
+use refusal::Refusal;
 use replay::unchecked::field;
 
 // The truth of the condition, which is field 5.

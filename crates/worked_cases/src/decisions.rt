@@ -1,9 +1,9 @@
 // The calls that tell which rule decided a comparison, by their numbers in `replay`.
-use refusal::Refusal;
 use crate::lent_bits::number;
 use abi::{decision_result, operand};
 use agreement::{Field, is_decision};
 use fourstate::comparisons;
+use refusal::Refusal;
 use replay::unchecked::{field, plain};
 
 // A decision on two operands.

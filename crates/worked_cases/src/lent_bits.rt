@@ -1,11 +1,11 @@
 // The calls on bits and words of a vector that is lent, by their numbers in `replay`.
-use refusal::Refusal;
 use abi::{BitResult, WordResult, bit_result, change_result, word_result};
 use agreement::{Field, answers, is_bit};
 use fourstate::bitcode::LogicBit;
 use fourstate::bitplanes::Word;
 use fourstate::vectors::Header;
 use fourstate::{bitplanes, operators};
+use refusal::Refusal;
 use replay::unchecked::{are_left, plain};
 
 // A field that is a number.

@@ -58,7 +58,10 @@ fn agrees(line: &[u8]) -> bool {
     let a = field(line, 3, &mut value, &mut unknown);
     let m = a.value;
     let n = a.unknown;
-    has_answer(call_of(line), line, a, &mut value[0..m], &mut unknown[0..n])
+    match call_of(line) {
+        Some(call) => has_answer(call, line, a, &mut value[0..m], &mut unknown[0..n]),
+        None => false,
+    }
 }
 
 // Works the lines, and counts those that agree.

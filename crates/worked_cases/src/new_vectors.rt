@@ -1,9 +1,9 @@
 // The calls that make a vector, by their numbers in `replay`.
-use refusal::Refusal;
 use abi::header_result;
 use agreement::is_vector;
 use fourstate::operators::from_real_wrapped;
 use fourstate::vectors::{Header, from_u64, new, zero};
+use refusal::Refusal;
 use replay::unchecked::{are_left, plain};
 
 fn make(

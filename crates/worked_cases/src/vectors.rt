@@ -1,9 +1,9 @@
 // The calls of operators whose result is a vector, by their numbers in `replay`.
-use refusal::Refusal;
 use abi::header_result;
 use agreement::is_vector;
 use fourstate::operators;
 use fourstate::vectors::Header;
+use refusal::Refusal;
 use replay::unchecked::{are_left, field, plain};
 
 // A vector of two operands, or of the first.

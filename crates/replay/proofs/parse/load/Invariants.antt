@@ -1,11 +1,7 @@
 -- The invariant: the first k words are those of the bits, and `left` characters are not yet read.
-use Rattle.std.proofs.Common.{◌≡◌, ◌-◌, ◌*◌, ◌≤◌, length}
+use Rattle.std.proofs.Common.{◌≡◌, ◌-◌, ◌*◌, length}
 use Rattle.replay.specs.Fields.{bits_of, loaded}
 use Rattle.replay.proofs.parse.load.Given as goal
 
 abbrev pub invariant-loop-k : goal.invariant-loop-k
-invariant-loop-k l =
-    (l.k ≤ l.n) × (l.left ≡ length l.bits - l.k * 64) × (length l.plane ≡ length l.initial.plane) × (l.plane ≡ loaded l.is_unknown (bits_of l.bits) l.k l.initial.plane)
-
-abbrev pub decreases-loop-k : goal.decreases-loop-k
-decreases-loop-k l = l.n - l.k
+invariant-loop-k l = (l.left ≡ length l.bits - l.k * 64) × (l.plane ≡ loaded l.is_unknown (bits_of l.bits) l.k l.initial.plane)

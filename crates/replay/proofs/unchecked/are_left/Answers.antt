@@ -4,14 +4,14 @@ use Rattle.words.specs.Planes.{lent}
 use Rattle.replay.proofs.Readings.{compared}
 use Rattle.replay.proofs.unchecked.are_left.Goals as goal
 
-pub returns-then-not-same_words : goal.returns-then-not-same_words
-returns-then-not-same_words c =
+pub returns-then-same_words : goal.returns-then-same_words
+returns-then-same_words c =
     let a = c.args in
     let q = compared a.out a.line.now (lent a.value.now a.unknown.now) _ _ _ _ c.left_at-k.ensures c.field.ensures.unknown_value in
-    sym (q ∙ rw (sym c.same_words.ensures ∙ c.if-not-same_words.true))
+    sym (q ∙ rw (sym c.same_words.ensures ∙ c.if-same_words.true) (sym c.same_words-then-same_words.ensures))
 
-pub returns : goal.returns
-returns c =
+pub returns-else-same_words : goal.returns-else-same_words
+returns-else-same_words c =
     let a = c.args in
     let q = compared a.out a.line.now (lent a.value.now a.unknown.now) _ _ _ _ c.left_at-k.ensures c.field.ensures.unknown_value in
-    sym (q ∙ rw (sym c.same_words.ensures ∙ c.if-not-same_words.false) (sym c.same_words-2.ensures))
+    sym (q ∙ rw (sym c.same_words.ensures ∙ c.if-same_words.false) (sym c.if-same_words.false))

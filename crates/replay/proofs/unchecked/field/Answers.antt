@@ -1,17 +1,12 @@
--- What the parts are read as, put together.
+-- A field has as many words of each plane as were lent.
 use Rattle.std.proofs.Common.{◌≡◌, ap, arith}
 use Rattle.agreement.specs.declared.Field.{Field}
 use Rattle.replay.specs.Fields.{field_of}
-use Rattle.replay.proofs.Readings.{together}
 use Rattle.replay.proofs.unchecked.field.Goals as goal
 
-pub returns : goal.returns
+pub returns-clause-value_in_bounds : goal.returns-clause-value_in_bounds
 unfolding field_of
-returns c =
-    let a = c.args in
-    let m : c.meant.result.value ≡ c.least-m.result = ap (λ (f : Field). f.value) c.meant.ensures in
-    let n : c.meant.result.unknown ≡ c.least-n.result = ap (λ (f : Field). f.unknown) c.meant.ensures in record {
-      unknown_value = together a.k a.line.now _ _ _ _ _ _ _ _ _ c.part-s.ensures c.sizes_of-e.ensures c.least-m.ensures c.least-n.ensures
-          c.bits_of-bits.ensures c.load.ensures c.load-2.ensures c.meant.ensures;
-      value_in_bounds = (omega (arith, c.least-m.ensures, c.load), omega (arith, c.least-n.ensures, c.load-2));
-    }
+returns-clause-value_in_bounds c =
+    let m : c.meant.result.value ≡ c.min-m.result = ap (λ (f : Field). f.value) c.meant.ensures in
+    let n : c.meant.result.unknown ≡ c.min-n.result = ap (λ (f : Field). f.unknown) c.meant.ensures in
+    (omega (arith, c.min-m.ensures, c.load), omega (arith, c.min-n.ensures, c.load-2))
