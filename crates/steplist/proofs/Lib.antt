@@ -2,4 +2,5 @@ pub mod Names
 pub mod Exactly
 pub mod Parts
 pub mod Listed
+pub mod Whole
 pub mod Cases

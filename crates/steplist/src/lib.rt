@@ -135,7 +135,7 @@ fn read_step(s: &[u8], at: usize) -> Option<Found<Step>>
     })
 }
 
-// n steps.
+// n steps. This stands beside read_inputs, since a reader of both would take an array of a type parameter.
 fn read_steps(s: &[u8], at: usize, n: usize) -> Option<Found<[Step; 256]>>
     requires { n ≤ 256 }
     ensures { got (steps_in n) s.now result ≡ many step n (drop at s.now) }
@@ -172,13 +172,13 @@ fn read_lines(s: &[u8]) -> Option<Found<StepList>>
 }
 
 // The list that a text says, or 6 if the text breaks its format or has more than 65,536 bytes.
+#[tactic(auto, using(crate::proofs::Whole::listed, crate::proofs::Whole::text_follows, crate::proofs::Whole::too_long, crate::proofs::Whole::no_list))]
 pub fn read_list(s: &[u8]) -> Result<StepList, Refusal>
     ensures { answer (result_map_both (list_in s.now) (λ r. r) result)
         ≡ whole s.now }
 {
-    let list = read_lines(s).ok_or(Refusal::BadFormat)?;
-    if (list.next < s.len()) | (65536 < s.len()) {
-        return Err(Refusal::BadFormat);
+    match read_lines(s) {
+        Some(list) if s.len() <= list.next && s.len() <= 65536 => Ok(list.value),
+        _ => Err(Refusal::BadFormat),
     }
-    Ok(list.value)
 }
