@@ -39,7 +39,7 @@ pub mod bitplanes {
     pub use entries::mask_top;
 }
 
-// `value` of document 01: a vector's header, the operand of equality and truth, refusals, answers, and the constructors.
+// `value` of document 01: a vector's header, the operand of equality and truth, refusals, and the constructors.
 pub mod vectors {
     // A width, a sign mark and a fill mark.
     pub use entries::Header;
@@ -47,12 +47,8 @@ pub mod vectors {
     pub use entries::Operand;
     // The widest vector: 1,048,576 bits.
     pub use entries::MAX_WIDTH;
-    // Why a call was not done.
+    // Why a call was not done: the error of an answer, which is a `Result`. Its number is its `u8::from`.
     pub use entries::Refusal;
-    // Whether a call that answers nothing else was done.
-    // A bit, or the refusal.
-    // A word of both planes, or the refusal.
-    // The header of a vector that was written into lent planes, or the refusal.
     // Whether a header and its planes may be an operand, or which of 1 to 4 they break.
     pub use entries::check_vector;
     // All x, at a clamped width.
@@ -75,8 +71,7 @@ pub mod operators {
     pub use entries::merge_unknown;
     // Not of each place.
     pub use entries::bitwise_not;
-    // Whether an insert changed a bit, or the refusal.
-    // Insert: puts the n lowest bits of a word into a vector, in place.
+    // Insert: puts the n lowest bits of a word into a vector, in place, and tells whether a bit changed.
     pub use entries::splice_bits64;
     // A real as an unsigned vector: rounded half away from zero, modulo 2 to the width.
     pub use entries::from_real_wrapped;
@@ -92,7 +87,6 @@ pub mod reductions {
     pub use entries::reduce_xor;
     // False, true or unknown.
     pub use entries::Truth;
-    // A truth, or the refusal.
     // True on a known 1, else unknown on an unknown bit, else false; a real is true if not equal to 0.
     pub use entries::is_nonzero;
     // And of two truths.
@@ -117,7 +111,6 @@ pub mod comparisons {
     pub use entries::Rule;
     // A bit, and the rule that decided.
     pub use entries::Decision;
-    // A decision, or the refusal.
     // The answer of `is_equal`, and the rule.
     pub use entries::decide_equal;
     // The answer of `wildcard_eq`, and the rule.
@@ -132,15 +125,12 @@ pub mod arms {
 
 // Sized literals such as 8'hzx, read into lent planes and written into a lent text.
 pub mod literal {
-    // The header of a literal's vector, or the refusal.
     // Whether a text is a literal, and the header of its vector.
     pub use entries::literal_header;
     // The vector of a literal, into planes of exactly its words.
     pub use entries::read_literal;
-    // The length of a literal, or the refusal.
     // How long the literal of a vector is.
     pub use entries::literal_length;
-    // Whether a text was written, or the refusal.
     // A vector as a binary literal, into a text that is exactly as long.
     pub use entries::write_literal;
 }
@@ -151,8 +141,7 @@ pub mod cellstore {
     pub use entries::Store;
     // Where a vector's words begin in both arenas, and its header.
     pub use entries::Cell;
-    // The number of the cell that was added, or the refusal.
-    // An answer, and the store as the call leaves it.
+    // The number of the cell that was added, or the refusal, and the store as the call leaves it.
     pub use entries::Stored;
 }
 
