@@ -1,56 +1,43 @@
 // Sized literals through `fourstate`: each is read and written again, which is in binary; and texts that are no literals.
 #![tactic(auto)]
 
-use check::same;
 use fourstate::bitplanes::word_count;
 use fourstate::literal::{literal_header, literal_length, read_literal, write_literal};
-use fourstate::vectors::number;
+use fourstate::vectors::Refusal;
 use std::io;
 
-// Whether a literal is read into these planes, and written into this text as that one.
+// Whether a literal is read into these planes, and written into this text as that one; or which refusal comes.
 fn goes_round(
     text: &[u8],
     binary: &[u8],
     value: &mut [u64],
     unknown: &mut [u64],
     out: &mut [u8],
-) -> bool {
-    match read_literal(text, value, unknown) {
-        Err(_) => false,
-        Ok(h) => match write_literal(h, value, unknown, out) {
-            Err(_) => false,
-            Ok(()) => same(out, binary),
-        },
-    }
+) -> Result<bool, Refusal> {
+    let h = read_literal(text, value, unknown)?;
+    write_literal(h, value, unknown, out)?;
+    Ok(*out == *binary)
 }
 
-// Whether a literal of at most 128 bits is read and written again as that one, in planes and a text of the lengths that are told.
-fn agrees(text: &[u8], binary: &[u8]) -> bool {
+// Whether a literal of at most 128 bits is read and written again as that one, in planes and a text of the lengths that are told; or which
+// refusal comes.
+fn agrees(text: &[u8], binary: &[u8]) -> Result<bool, Refusal> {
     let mut value = [0u64; 2];
     let mut unknown = [0u64; 2];
     let mut out = [0u8; 134];
-    match literal_header(text) {
-        Err(_) => false,
-        Ok(h) => match literal_length(h) {
-            Err(_) => false,
-            Ok(n) => {
-                let words = word_count(h.width);
-                if 2 < words {
-                    return false;
-                }
-                if 134 < n {
-                    return false;
-                }
-                goes_round(
-                    text,
-                    binary,
-                    &mut value[0..words],
-                    &mut unknown[0..words],
-                    &mut out[0..n],
-                )
-            }
-        },
+    let h = literal_header(text)?;
+    let n = literal_length(h)?;
+    let words = word_count(h.width);
+    if 2 < words || 134 < n {
+        return Ok(false);
     }
+    goes_round(
+        text,
+        binary,
+        &mut value[0..words],
+        &mut unknown[0..words],
+        &mut out[0..n],
+    )
 }
 
 // Whether a text is refused by 15, and leaves the planes.
@@ -59,14 +46,14 @@ fn is_refused(text: &[u8]) -> bool {
     let mut unknown = [9u64; 1];
     match read_literal(text, &mut value, &mut unknown) {
         Ok(_) => false,
-        Err(r) => u8::from(r) == 15 && value[0] == 7 && unknown[0] == 9,
+        Err(r) => u8::from(r) == 15 && value == [7] && unknown == [9],
     }
 }
 
 // Writes whether a literal is read and written again as that one.
 fn case(rt: &impl Print, text: &[u8], binary: &[u8]) -> io::Result<()> {
     rt.write_all(text)?;
-    if agrees(text, binary) {
+    if agrees(text, binary) == Ok(true) {
         rt.write_all(b" is ")?;
         rt.write_all(binary)?;
         rt.write_all(b"\n")
