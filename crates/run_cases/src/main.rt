@@ -2,15 +2,14 @@
 // a run writes is compared by the cases of `cones`.
 #![tactic(auto)]
 
-use agreement::same_words;
 use fourstate::cellstore::Store;
 use fourstate::steplists::{Op, Step, run};
 use fourstate::vectors::Header;
 use std::io;
 
 // Whether the arenas hold the inputs 1x and 01, their and 0x, and x, the or-reduction of that, a word each.
-fn hold_case(av: &[u64], au: &[u64]) -> bool {
-    same_words(av, &[2, 1, 0, 0]) && same_words(au, &[1, 0, 1, 1])
+fn hold_case(av: [u64; 4], au: [u64; 4]) -> bool {
+    av == [2, 1, 0, 0] && au == [1, 0, 1, 1]
 }
 
 // Whether the text's run ends with its two steps run.
@@ -29,7 +28,7 @@ fn run_agrees() -> bool {
         &mut su,
         &mut out,
     );
-    matches!(r.ending, Ok(2)) && hold_case(&av, &au)
+    matches!(r.ending, Ok(2)) && hold_case(av, au)
 }
 
 // Whether the last step on the store adds cell 3.
@@ -60,7 +59,7 @@ fn store_agrees() -> bool {
     let b = a.store.add_input(h, &[1], &[0], &mut av, &mut au);
     let c = b.store.add_step(and, &mut av, &mut au, &mut sv, &mut su);
     let d = c.store.add_step(or, &mut av, &mut au, &mut sv, &mut su);
-    matches!(d.answer, Ok(3)) && hold_case(&av, &au)
+    d.answer == Ok(3) && hold_case(av, au)
 }
 
 // Writes whether a case agrees.
