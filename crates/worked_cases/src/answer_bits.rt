@@ -1,19 +1,19 @@
 // The calls of operators whose answer is a bit, by their numbers in `replay`.
-use abi::{BitResult, bit_result, operand, truth_result};
+use abi::{BitResult, operand};
 use agreement::{Field, is_bit};
-use fourstate::vectors::Header;
+use fourstate::bitcode::LogicBit;
+use fourstate::vectors::{Header, Refusal};
 use fourstate::{comparisons, reductions};
-use refusal::Refusal;
 use replay::unchecked::{field, plain};
 
 // An answer bit of one operand.
 fn of_one(call: usize, a: Field, av: &[u64], au: &[u64]) -> BitResult {
     let h = a.header;
     match call {
-        10 => bit_result(reductions::reduce_and(h, av, au)),
-        11 => bit_result(reductions::reduce_or(h, av, au)),
-        12 => bit_result(reductions::reduce_xor(h, av, au)),
-        _ => truth_result(reductions::is_nonzero(operand(a.is_real, h, a.real), av, au)),
+        10 => BitResult::from(reductions::reduce_and(h, av, au)),
+        11 => BitResult::from(reductions::reduce_or(h, av, au)),
+        12 => BitResult::from(reductions::reduce_xor(h, av, au)),
+        _ => BitResult::from(reductions::is_nonzero(operand(a.is_real, h, a.real), av, au)),
     }
 }
 
@@ -80,7 +80,7 @@ fn on_left(call: usize, line: &[u8], a: Field, av: &[u64], au: &[u64]) -> BitRes
     let b = field(line, 4, &mut value, &mut unknown);
     let m = b.value;
     let n = b.unknown;
-    bit_result(of_both(call, a, av, au, b, &value[0..m], &unknown[0..n]))
+    BitResult::from(of_both(call, a, av, au, b, &value[0..m], &unknown[0..n]))
 }
 
 // Whether a call gives the line's answer.

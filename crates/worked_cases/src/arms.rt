@@ -1,9 +1,8 @@
 // The call that hands back the arm that a condition picks.
 use abi::operand;
-use agreement::same_words;
 use fourstate::arms::chosen_arm;
 use fourstate::reductions::{Truth, is_nonzero};
-use refusal::Refusal;
+use fourstate::vectors::Refusal;
 use replay::unchecked::field;
 
 // The truth of the condition, which is field 5.
@@ -20,11 +19,6 @@ fn condition(line: &[u8]) -> Result<Truth, Refusal> {
     )
 }
 
-// Whether two planes have the same words and as many.
-fn same_plane(a: &[u64], b: &[u64]) -> bool {
-    a.len() == b.len() && same_words(a, b)
-}
-
 // Whether the chosen planes are those of the line's answer.
 fn are_chosen<'a>(
     t: Truth,
@@ -39,8 +33,7 @@ fn are_chosen<'a>(
     let want = field(line, 0, &mut value, &mut unknown);
     let m = want.value;
     let n = want.unknown;
-    same_plane(chosen_arm(t, av, bv), &value[0..m])
-        && same_plane(chosen_arm(t, au, bu), &unknown[0..n])
+    chosen_arm(t, av, bv) == &value[0..m] && chosen_arm(t, au, bu) == &unknown[0..n]
 }
 
 // Whether the call gives the planes of the line's answer; those of the first arm are lent.

@@ -1,9 +1,10 @@
 // The calls that tell which rule decided a comparison, by their numbers in `replay`.
 use crate::lent_bits::number;
-use abi::{decision_result, operand};
+use abi::{DecisionResult, operand};
 use agreement::{Field, is_decision};
 use fourstate::comparisons;
-use refusal::Refusal;
+use fourstate::comparisons::Decision;
+use fourstate::vectors::Refusal;
 use replay::unchecked::{field, plain};
 
 // A decision on two operands.
@@ -31,6 +32,6 @@ pub(crate) fn decides(call: usize, line: &[u8], a: Field, av: &[u64], au: &[u64]
     let b = field(line, 4, &mut value, &mut unknown);
     let m = b.value;
     let n = b.unknown;
-    let r = decision_result(decision(call, a, av, au, b, &value[0..m], &unknown[0..n]));
+    let r = DecisionResult::from(decision(call, a, av, au, b, &value[0..m], &unknown[0..n]));
     is_decision(plain(line, 0), number(line, 5), number(line, 6), r)
 }

@@ -1,11 +1,10 @@
 // The calls on bits and words of a vector that is lent, by their numbers in `replay`.
-use abi::{BitResult, WordResult, bit_result, change_result, word_result};
+use abi::{BitResult, WordResult};
 use agreement::{Field, answers, is_bit};
 use fourstate::bitcode::LogicBit;
 use fourstate::bitplanes::Word;
-use fourstate::vectors::Header;
+use fourstate::vectors::{Header, Refusal};
 use fourstate::{bitplanes, operators};
-use refusal::Refusal;
 use replay::unchecked::{are_left, plain};
 
 // A field that is a number.
@@ -27,10 +26,13 @@ pub(crate) fn reads(call: usize, line: &[u8], h: Header, value: &[u64], unknown:
     let i = number(line, 4) as usize;
     let n = number(line, 5) as usize;
     match call {
-        0 => is_bit(want, bit_result(bitplanes::get(width, value, unknown, i))),
+        0 => is_bit(
+            want,
+            BitResult::from(bitplanes::get(width, value, unknown, i)),
+        ),
         _ => is_word(
             want,
-            word_result(bitplanes::extract64(width, value, unknown, i, n)),
+            WordResult::from(bitplanes::extract64(width, value, unknown, i, n)),
         ),
     }
 }
@@ -60,7 +62,7 @@ fn write(
             done(bitplanes::set(width, value, unknown, i, LogicBit::from(code)))
         }
         3 => done(bitplanes::splice64(width, value, unknown, i, bits, n)),
-        4 => change_result(operators::splice_bits64(h, value, unknown, i, bits, n)),
+        4 => BitResult::from(operators::splice_bits64(h, value, unknown, i, bits, n)),
         _ => done(bitplanes::mask_top(width, value, unknown)),
     }
 }

@@ -27,28 +27,16 @@ use std::rt::Files;
 
 // Whether a call, by its number in `replay`, has the line's answer; its first operand is lent.
 fn has_answer(call: usize, line: &[u8], a: Field, value: &mut [u64], unknown: &mut [u64]) -> bool {
-    if call < 2 {
-        return lent_bits::reads(call, line, a.header, value, unknown);
+    match call {
+        0..=1 => lent_bits::reads(call, line, a.header, value, unknown),
+        2..=5 => lent_bits::writes(call, line, a.header, value, unknown),
+        6..=9 => new_vectors::makes(call, line, a.header, value, unknown),
+        10..=20 => answer_bits::answers(call, line, a, value, unknown),
+        21..=25 => vectors::results(call, line, a.header, value, unknown),
+        26..=27 => decisions::decides(call, line, a, value, unknown),
+        28 => arms::chooses(line, value, unknown),
+        _ => false,
     }
-    if call < 6 {
-        return lent_bits::writes(call, line, a.header, value, unknown);
-    }
-    if call < 10 {
-        return new_vectors::makes(call, line, a.header, value, unknown);
-    }
-    if call < 21 {
-        return answer_bits::answers(call, line, a, value, unknown);
-    }
-    if call < 26 {
-        return vectors::results(call, line, a.header, value, unknown);
-    }
-    if call < 28 {
-        return decisions::decides(call, line, a, value, unknown);
-    }
-    if call < 29 {
-        return arms::chooses(line, value, unknown);
-    }
-    false
 }
 
 // Whether the call of a line has the line's answer.
@@ -68,6 +56,7 @@ fn agrees(line: &[u8]) -> bool {
 fn count<W: Write>(s: &[u8], show: bool, out: &mut W) -> io::Result<u64> {
     let mut agreed = 0;
     let mut at = 0;
+    // A `while`: each turn goes on by a line.
     while at < s.len() {
         let e = line_end(s, at);
         let line = &s[at..e];

@@ -1,9 +1,8 @@
 // The calls that make a vector, by their numbers in `replay`.
-use abi::header_result;
+use abi::HeaderResult;
 use agreement::is_vector;
 use fourstate::operators::from_real_wrapped;
-use fourstate::vectors::{Header, from_u64, new, zero};
-use refusal::Refusal;
+use fourstate::vectors::{Header, Refusal, from_u64, new, zero};
 use replay::unchecked::{are_left, plain};
 
 fn make(
@@ -30,7 +29,7 @@ pub(crate) fn makes(
     value: &mut [u64],
     unknown: &mut [u64],
 ) -> bool {
-    let r = header_result(make(call, line, h.width, value, unknown));
+    let r = HeaderResult::from(make(call, line, h.width, value, unknown));
     let left = are_left(line, 3, value, unknown);
     is_vector(plain(line, 0), r) && left
 }

@@ -1,9 +1,8 @@
 // The calls of operators whose result is a vector, by their numbers in `replay`.
-use abi::header_result;
+use abi::HeaderResult;
 use agreement::is_vector;
 use fourstate::operators;
-use fourstate::vectors::Header;
-use refusal::Refusal;
+use fourstate::vectors::{Header, Refusal};
 use replay::unchecked::{are_left, field, plain};
 
 // A vector of two operands, or of the first.
@@ -46,7 +45,7 @@ fn on_operands(
     let n = o.unknown;
     let ov = &mut value[0..m];
     let ou = &mut unknown[0..n];
-    let r = header_result(result(call, a, av, au, b, bv, bu, ov, ou));
+    let r = HeaderResult::from(result(call, a, av, au, b, bv, bu, ov, ou));
     let left = are_left(line, k, ov, ou);
     is_vector(plain(line, 0), r) && left
 }
