@@ -10,7 +10,8 @@ use abi::{BitResult, DecisionResult, HeaderResult};
 use value::Header;
 use words::Word;
 
-// A field of a line, read in each way that its text can be meant.
+// A field of a line, read in each way that its text can be meant: the two flags tell how it is meant, and the other fields hold whatever it
+// is, so none of them is an `Option`.
 #[derive(Clone, Copy)]
 pub struct Field {
     pub is_refusal: bool,
