@@ -42,8 +42,9 @@ pub fn line_end(s: &[u8], at: usize) -> usize
     }
 }
 
-// The number of the call of a line, by its place in `parse::number_of`, where the names stand in one text: an enum would list them again. There is none where the name is none, and where a vector asks for
-// more words than are lent: 16,385 for the first operand, 65 for the others.
+// The number of the call of a line, by its place in `parse::number_of`, where the names stand in one text: an enum would list them again.
+// There is none where the name is none, and where a vector asks for more words than are lent: 16,385 for the first operand, 65 for the
+// others.
 #[tactic(auto, unfolding(crate::specs::Calls::call_of))]
 pub fn call_of(line: &[u8]) -> Option<usize>
     ensures { result ≡ call_of line.now }
