@@ -7,8 +7,8 @@ ghost use Rattle.std.specs.Io.KnownBytes.{Consumes, IsAtEnd};
 use std::io;
 use std::io::Read;
 
-// Reads to the end of the input, or until the buffer is full, and gives how many bytes lie in the buffer. They are the input's next, where it
-// is known which these are; what standard input or a file gives is free. Where a read fails, its error comes back.
+// Reads to the end of the input, or until the buffer is full, and gives how many bytes lie in the buffer. They are the input's next, where
+// it is known which these are; what standard input or a file gives is free. Where a read fails, its error comes back.
 pub fn read_all<R: Read>(input: &mut R, buf: &mut [u8]) -> io::Result<usize>
     ensures count { IfOk result (λ n. n ≤ length buf.new) }
     ensures front { IfOk result (λ n. IfSome (R.remaining input.old) (λ t. take n buf.new ≡ take (length buf.old) t)) }
