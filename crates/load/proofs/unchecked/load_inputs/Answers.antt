@@ -133,7 +133,7 @@ pub load_input-requires-clause-next_in_bounds : goal.load_input-requires-clause-
 load_input-requires-clause-next_in_bounds c =
     let a = c.args in
     let o = c.loop-i in
-    let inside = c.loop-i-test.true in
+    let inside : o.i < a.list.input_count = omega (arith, c.loop-i-test.true) in
     next-there a.text.now a.list c.requires (state empty_store (lent_by a.av.now a.au.now)) o.i o.next o.f (lent_by o.av o.au) inside
     (o.invariant.level (omega (arith, inside))) o.invariant.fitted o.invariant.fed
 
@@ -141,7 +141,7 @@ pub returns-in-Err-clause-au_value : goal.returns-in-Err-clause-au_value
 returns-in-Err-clause-au_value c =
     let a = c.args in
     let o = c.loop-i in
-    let inside = c.loop-i-test.true in
+    let inside : o.i < a.list.input_count = omega (arith, c.loop-i-test.true) in
     input-last a.text.now a.list c.requires (state empty_store (lent_by a.av.now a.au.now)) o.i o.next o.f (lent_by o.av o.au) inside
     (o.invariant.level (omega (arith, inside))) o.invariant.fitted o.invariant.fed
     (refusal_number c.in-Err.r) (lent_by c.load_input.new.av c.load_input.new.au) c.in-Err.ensures
@@ -151,7 +151,7 @@ loop-i-preserved c =
     let a = c.args in
     let o = c.loop-i in
     let n = c.load_input in
-    let inside = c.loop-i-test.true in
+    let inside : o.i < a.list.input_count = omega (arith, c.loop-i-test.true) in
     let from = state empty_store (lent_by a.av.now a.au.now) in
     let level : length o.av ≡ length o.au = o.invariant.level (omega (arith, inside)) in
     let b = lent_by n.new.av n.new.au in

@@ -113,7 +113,7 @@ returns-in-Err c =
     let t = c.take_step in
     let k = o.k in
     sym (walk-last a.list.step_count (step a.list) (held a.inputs.count a.inputs.fields a.av.now a.au.now a.sv.now a.su.now) a.out.now
-    (held o.n o.f o.av o.au o.sv o.su) o.out o.at k o.invariant.walked c.loop-k-test.true
+    (held o.n o.f o.av o.au o.sv o.su) o.out o.at k o.invariant.walked (omega (arith, c.loop-k-test.true))
     (refused (refusal_number c.in-Err.refusal)) (held o.n o.f t.new.av t.new.au t.new.sv t.new.su) c.put_refused-in-Err.new.out
     c.put_refused-in-Err.result
     c.in-Err.ensures.taken (refusal_number c.in-Err.refusal) refl
@@ -199,7 +199,7 @@ loop-k-preserved c =
           walked-step o.n o.next o.f old oldscratch b q s o.invariant.fitted level c.in-Ok.ensures.few c.in-Ok.c c.in-Ok.ensures.taken
           o.out c.put_step-at.new.out o.at c.put_step-at.result c.put_step-at.ensures
           (held a.inputs.count a.inputs.fields a.av.now a.au.now a.sv.now a.su.now) a.out.now a.list.step_count o.k (step a.list) refl
-          c.loop-k-test.true
+          (omega (arith, c.loop-k-test.true))
           (omega (arith, c.requires.step_count_bound.0, c.requires.step_count_bound.1)) o.invariant.walked c.put_step-at.auto.out;
     }
 
