@@ -1,4 +1,5 @@
 -- A scan of a vector for a known 1, bit by bit.
+--     unknown_code                   the code of a bit that is x or z
 --     start                          no bit read yet
 --     more_zero, more_unknown        one more, which is 0, or x or z
 --     found, done                    a known 1 is read; all bits are read
@@ -6,18 +7,22 @@ use mathlib.Core.Path.{◌≡◌, refl, sym, ap, ap₂, ◌∙◌, subst}
 use mathlib.Core.Logic.{◌⊎◌, ⊎_elim}
 use mathlib.Core.Bool.{Bool, true, false, ◌||◌, cond, or_assoc}
 use mathlib.Core.List.{List}
-use Prim.Native.Nat.{ℕ, ◌+◌, ◌≤◌}
+use Prim.Native.Nat.{ℕ, ◌+◌, ◌≤◌, ◌<◌}
 use native.Mathlib.Nat.{add-zero}
+use native.Mathlib.Omega.{arith}
 use lib.ListN.{length}
 use Rattle.bit.specs.declared.LogicBit.{LogicBit}
 use Rattle.bit.specs.declared.LogicBit.TheVariants.{Zero, One, X, Z}
-use Rattle.bit.specs.Rules.{same}
+use Rattle.bit.specs.Rules.{code, same}
 use Rattle.bit.proofs.Tests.{or-none, or-all}
 use Rattle.words.specs.Vector.{at}
 use Rattle.reduce_words.specs.declared.Truth.TheVariants.{False, True, Unknown}
 use Rattle.reduce_words.specs.Fold.{any_of, is_unknown, truth_of}
 use Rattle.reduce_words.proofs.Gather.{gather, some, gather-add}
 use Rattle.reduce_words.proofs.Places.{any_some, any_found}
+
+pub unknown_code : {b : LogicBit} → (b ≡ X) ⊎ (b ≡ Z) → 1 < code b
+unknown_code e = ⊎_elim (λ x. rw x (omega arith)) (λ z. rw z (omega arith)) e
 
 some_more : (i : ℕ) (f : ℕ → Bool) → some (i + 1) f ≡ (some i f || f i)
 unfolding gather
