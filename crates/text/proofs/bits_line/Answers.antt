@@ -28,22 +28,22 @@ module _ (s k : List ℕ) (at from n : ℕ) (e : Some from ≡ place_in s (key k
       let l : length (drop from s) < n = omega (arith, length-drop from s) in
       rw (behind-key, many-short n (drop from s) l)
 
-  module _ (h : from + n ≤ length s) (bytes : List ℕ) (r : bytes ≡ slice_range s from (from + n)) where
+  module _ (end : ℕ) (h : end ≤ length s) (bytes : List ℕ) (r : bytes ≡ slice_range s from end) (m : end ≡ from + n) where
     enough : n ≤ length (drop from s)
     enough = omega (arith, length-drop from s)
 
     those : take n (drop from s) ≡ bytes
-    those = let m : from + n - from ≡ n = omega arith in sym (r ∙ rw m)
+    those = let l : end - from ≡ n = omega arith in sym (r ∙ rw l)
 
     other : false ≡ list_all is_bit bytes → None ≡ place_in s (bits_line k n (drop at s))
     unfolding bits
     other q = rw (behind-key, many-bits n (drop from s) enough, those, ← q)
 
-    ended : true ≡ list_all is_bit bytes → place_in s (key line_end (drop (from + n) s)) ≡ place_in s (bits_line k n (drop at s))
+    ended : true ≡ list_all is_bit bytes → place_in s (key line_end (drop end s)) ≡ place_in s (bits_line k n (drop at s))
     unfolding bits
     ended q =
         let t : List ℕ = drop (from + n) s in
-        rw (behind-key, many-bits n (drop from s) enough, those, ← q, drop-drop n from s) (sym (place-made s (key line_end t) (reverse (map of_byte bytes))))
+        rw (m, behind-key, many-bits n (drop from s) enough, those, ← q, drop-drop n from s) (sym (place-made s (key line_end t) (reverse (map of_byte bytes))))
 
 pub returns-in_err-from : goal.returns-in_err-from
 unfolding bits_line
@@ -53,17 +53,17 @@ pub returns-in_err-bits : goal.returns-in_err-bits
 returns-in_err-bits c =
     let a = c.args in
     let h = ⊎_elim (λ l. absurd (omega arith)) (λ l. l) c.in_err-bits.ensures.lookup.0 in
-    c.from_residual-in_err-bits.ensures ∙ short a.s.now a.key.now a.at c.in_ok-from.from a.n c.in_ok-from.ensures h
+    c.from_residual-in_err-bits.ensures ∙ short a.s.now a.key.now a.at c.in_ok-from.from a.n c.in_ok-from.ensures (omega arith)
 
 pub returns-then-not-are_bits : goal.returns-then-not-are_bits
 returns-then-not-are_bits c =
     let a = c.args in
     let h = c.in_ok-bits.ensures.lookup.0 in
-    other a.s.now a.key.now a.at c.in_ok-from.from a.n c.in_ok-from.ensures h.1 c.in_ok-bits.bits.now h.2 c.if-not-are_bits.ensures
+    other a.s.now a.key.now a.at c.in_ok-from.from a.n c.in_ok-from.ensures _ h.1 c.in_ok-bits.bits.now h.2 (omega arith) c.if-not-are_bits.ensures
 
 pub returns : goal.returns
 returns c =
     let a = c.args in
     let h = c.in_ok-bits.ensures.lookup.0 in
     c.skip-2.ensures
-    ∙ ended a.s.now a.key.now a.at c.in_ok-from.from a.n c.in_ok-from.ensures h.1 c.in_ok-bits.bits.now h.2 c.if-not-are_bits.ensures
+    ∙ ended a.s.now a.key.now a.at c.in_ok-from.from a.n c.in_ok-from.ensures _ h.1 c.in_ok-bits.bits.now h.2 (omega arith) c.if-not-are_bits.ensures
