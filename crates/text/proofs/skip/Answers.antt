@@ -8,7 +8,7 @@ use lib.Dec.{eqb}
 use lib.ListN.{length, take, drop}
 use lib.Pointwise.{pointwise}
 use Rattle.std.proofs.Common.{Some, None}
-use Rattle.std.proofs.lemmas.List.{drop_min, take_rest}
+use Rattle.std.proofs.lemmas.List.{drop_min, take_rest, take_all}
 use Rattle.text.specs.Read.{key as key_of}
 use Rattle.text.specs.Answers.{place_in}
 use Rattle.text.proofs.Turns.{key-stands}
@@ -25,15 +25,18 @@ module _ (s k : List ℕ) (at m : ℕ) (e : m ≡ min at (length s)) where
   missing : pointwise eqb (take (length k) text) k ≡ false → None ≡ place_in s (key_of k (drop at s))
   missing h = rw (← from-place, key-stands k text, h)
 
-  stands : (rest : List ℕ) → pointwise eqb (take (length k) text) k ≡ true → rest ≡ drop (length k) text
-      → Some (length s - length rest) ≡ place_in s (key_of k (drop at s))
-  stands rest h q = rw (← from-place, key-stands k text, h, q)
+  stands : (rest : List ℕ) (place : ℕ) → pointwise eqb (take (length k) text) k ≡ true → rest ≡ drop (length k) text → place ≡ length s - length rest
+      → Some place ≡ place_in s (key_of k (drop at s))
+  stands rest place h q p = rw (← from-place, key-stands k text, h, p, q)
 
 pub returns-in_err-rest : goal.returns-in_err-rest
-returns-in_err-rest c = let a = c.args in c.from_residual.ensures ∙ missing a.s.now a.key.now a.at c.min.result (omega arith) c.in_err-rest.ensures.cases
+returns-in_err-rest c =
+    let a = c.args in
+    let h = c.in_err-rest.ensures.cases in
+    c.from_residual.ensures ∙ missing a.s.now a.key.now a.at c.min.result (omega arith) (grind (arith, take_all))
 
 pub returns : goal.returns
 returns c =
     let a = c.args in
     let h = c.in_ok-rest.ensures.cases in
-    stands a.s.now a.key.now a.at c.min.result (omega arith) c.in_ok-rest.rest.now h.0 h.1
+    stands a.s.now a.key.now a.at c.min.result (omega arith) c.in_ok-rest.rest.now _ (grind (arith, take_all)) (grind (arith, take_all)) (omega arith)
