@@ -29,6 +29,7 @@ module _ (s k : List ℕ) (at m : ℕ) (e : m ≡ min at (length s)) where
       → Some place ≡ place_in s (key_of k (drop at s))
   stands rest place h q p = rw (← from-place, key-stands k text, h, p, q)
 
+-- what was compared is the whole key and all of the text from the place on: the searches find that out, with what h says of it
 pub returns-in_err-rest : goal.returns-in_err-rest
 returns-in_err-rest c =
     let a = c.args in
