@@ -71,7 +71,8 @@ words-preserved c =
     let f : ℕ → LogicBit = extent_at a.a (lent a.av.now a.au.now) in
     let g : ℕ → LogicBit = extent_at a.b (lent a.bv.now a.bu.now) in
     let k = c.words.k in
-    let none = c.loop-bits.invariant.1 ∙ ap (λ (n : ℕ). n * 2 ^ c.loop-bits.j) c.loop-bits-test.false ∙ zero-mul _ in
+    let read = c.loop-bits.invariant.1 ∙ ap (λ (n : ℕ). n * 2 ^ c.loop-bits.j) c.loop-bits-test.false ∙ zero-mul _ in
+    let none : c.marks_at-m.result.apart ≡ 0 = omega (arith, read) in
     elim c.if-doubt-eq0.branch [
       | then-doubt-eq0 w ↦ (
         c.loop-bits.invariant.0,
@@ -113,9 +114,10 @@ returns-in-Some c =
       | else-words-test w ↦ no-place (w.mismatch-is ∙ c.words.invariant.0) c.in-Some.is
       | then-words-test+then-loop-bits-test+then-bits-eq1 w ↦
           let i : c.in-Some.i ≡ k * 64 + w.loop-bits.j = one-place c.in-Some.is w.mismatch-is in
+          let apart : w.marks_at-m.result.apart ≡ w.loop-bits.bits * 2 ^ w.loop-bits.j = omega (arith, w.loop-bits.invariant.1) in
           rw i
           (left a.op f g a.width k (word_at f k) (word_at g k) (word-bit f k) (word-bit g k) _ w.marks_at-m.ensures _ _ _ c.words.invariant.1
-          w.loop-bits.bits w.loop-bits.j w.loop-bits.invariant.1
+          w.loop-bits.bits w.loop-bits.j apart
           (few w.loop-bits.bits w.loop-bits.j 64 w.loop-bits-test.true w.loop-bits.invariant.2) (omega arith))
     ]
 
