@@ -165,12 +165,17 @@ loop-i-preserved c =
           c.in-Ok.at b c.in-Ok.ensures;
     }
 
+-- the inputs that were taken are all of them, by any name of their number
+counted : (t : List ℕ) (l : StepList) (from : State) (f : Fields) (a : Planes) (i n : ℕ) → i ≡ n
+    → outcome (given tt) (state (store_of i f) a) ≡ add_inputs from (tabulate l.input_count (input t l))
+    → outcome (given tt) (state (store_of n f) a) ≡ add_inputs from (tabulate l.input_count (input t l))
+counted t l from f a i n e h = subst (λ (k : ℕ). outcome (given tt) (state (store_of k f) a) ≡ add_inputs from (tabulate l.input_count (input t l))) e h
+
 pub returns-clause-au_value : goal.returns-clause-au_value
 returns-clause-au_value c =
     let a = c.args in
     let o = c.loop-i in
-    let e : o.i ≡ a.list.input_count = omega (arith, c.loop-i-test.false, o.auto.i-end) in
-    subst (λ (n : ℕ). outcome (given tt) (state (store_of n o.f) (lent_by o.av o.au))
-    ≡ add_inputs (state empty_store (lent_by a.av.now a.au.now)) (tabulate a.list.input_count (input a.text.now a.list))) e
+    let all : a.list.input_count ≤ o.i = omega (arith, c.loop-i-test.false) in
+    counted a.text.now a.list (state empty_store (lent_by a.av.now a.au.now)) o.f (lent_by o.av o.au) o.i _ (omega (arith, c.loop-i-test.false, o.auto.i-end))
     (feed-done a.list.input_count (input a.text.now a.list) (state empty_store (lent_by a.av.now a.au.now))
-    (state (store_of o.i o.f) (lent_by o.av o.au)) o.i o.invariant.fed c.loop-i-test.false)
+    (state (store_of o.i o.f) (lent_by o.av o.au)) o.i o.invariant.fed all)
