@@ -203,13 +203,18 @@ loop-k-preserved c =
           (omega (arith, c.requires.step_count_bound.0, c.requires.step_count_bound.1)) o.invariant.walked c.put_step-at.auto.out;
     }
 
+-- the last line, which gives the number of the steps by any name
+ended : (m : Memory) (out bytes : List ℕ) (at length k n : ℕ) → buffer bytes length ≡ put (buffer out at) (done_text n) → k ≡ n
+    → final m (put (buffer out at) (done_text k)) (AtEnd k) ≡ final m (buffer bytes length) (AtEnd n)
+ended m out bytes at length k n h e = ap (λ z. final m (put (buffer out at) (done_text z)) (AtEnd z)) e ∙ ap (λ z. final m z (AtEnd n)) (sym h)
+
 pub returns : goal.returns
 returns c =
     let a = c.args in
     let o = c.loop-k in
     let m = held o.n o.f o.av o.au o.sv o.su in
-    let e : o.k ≡ a.list.step_count = omega (arith, c.loop-k-test.false, o.auto.k-end) in
+    let all : a.list.step_count ≤ o.k = omega (arith, c.loop-k-test.false, c.requires.step_count_bound.0) in
     sym (walk-done a.list.step_count (step a.list) (held a.inputs.count a.inputs.fields a.av.now a.au.now a.sv.now a.su.now) a.out.now
-    m o.out o.at o.k o.invariant.walked c.loop-k-test.false
-    ∙ ap (λ z. final m (put (buffer o.out o.at) (done_text z)) (AtEnd z)) e
-    ∙ ap (λ z. final m z (AtEnd a.list.step_count)) (sym c.put_done.ensures))
+    m o.out o.at o.k o.invariant.walked all
+    ∙ ended m o.out c.put_done.new.out o.at c.put_done.result o.k _ c.put_done.ensures
+    (omega (arith, c.loop-k-test.false, o.auto.k-end, c.requires.step_count_bound.0)))
