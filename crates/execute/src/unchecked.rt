@@ -18,8 +18,16 @@ use plan::PlannedStep;
 use reduce_words::Truth;
 use reduce_words::unchecked::{and_bits, truth, xor_bits};
 use value::Header;
-use words::unchecked::{filled, operand_word};
+use words::unchecked::{copy_front, filled, operand_word};
 use words::word_count;
+
+// Copies the words of a plane into another of the same length.
+fn copy_words(from: &[u64], to: &mut [u64])
+    requires { length to.old ≡ length from.now }
+    ensures { to.new ≡ from.now }
+{
+    copy_front(to, from, to.len())
+}
 
 // The bit that is the answer.
 fn answer(
@@ -95,20 +103,20 @@ fn work(
         }
         Family::Select => match truth(a.width, av, au) {
             Truth::True => {
-                ov.copy_from_slice(bv);
-                ou.copy_from_slice(bu);
+                copy_words(bv, ov);
+                copy_words(bu, ou);
             }
             Truth::False => {
-                ov.copy_from_slice(cv);
-                ou.copy_from_slice(cu);
+                copy_words(cv, ov);
+                copy_words(cu, ou);
             }
             Truth::Unknown => join_planes(Bitwise::Merge, b, bv, bu, c, cv, cu, b.width, ov, ou),
         },
         Family::Insert => {
             let n = b.width as usize;
             let bits = operand_word(bv, bu, b.width, 0, LogicBit::Zero);
-            ov.copy_from_slice(av);
-            ou.copy_from_slice(au);
+            copy_words(av, ov);
+            copy_words(au, ou);
             bits::unchecked::splice64(a.width, ov, ou, pos, bits, n)
         }
     }

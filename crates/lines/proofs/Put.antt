@@ -2,6 +2,7 @@
 --     put-none, put_byte, put-put    nothing, one byte, one text behind another
 --     after, three, place_of         a writer behind one or two others, and where it ends
 --     whole         a text that fills the buffer
+--     bytes-more    one byte more of a slice
 --     number-one, number_more, length-decimal     a number of one digit, and of one digit more
 --     bits_none, bits-more, bits-place     the bits of a vector, highest first: none, one more, and where they end
 use mathlib.Core.Path.{◌≡◌, refl, sym, ap, ◌∙◌}
@@ -10,8 +11,8 @@ use Prim.Native.Nat.{ℕ, suc, ◌+◌, ◌-◌, ◌/◌, ◌%◌, ◌≤◌, �
 use native.Mathlib.Nat.{add-zero}
 use native.Mathlib.Numerals.{add-one}
 use native.Mathlib.Omega.{arith}
-use lib.ListN.{length, take, drop, set, length-append, length-drop, length-reverse, take-append-drop, drop_of_length-le}
-use lib.Seq.{length-take-le, take_at, set_split, drop-cons, drop-drop, append_snoc, drop-append-add}
+use lib.ListN.{length, take, drop, set, length-append, length-drop, length-reverse, take-append-drop, drop_of_length-le, get_or}
+use lib.Seq.{length-take-le, take_at, set_split, drop-cons, drop-drop, append_snoc, drop-append-add, take-suc}
 use Rattle.bit.specs.declared.LogicBit.{LogicBit}
 use Rattle.bit.specs.declared.LogicBit.TheVariants.{Zero}
 use Rattle.words.specs.Vector.{at}
@@ -93,6 +94,20 @@ whole d w h p =
 pub three : (d : List ℕ) (i : ℕ) (u v w : List ℕ) {e f g : List ℕ} {j k l : ℕ} → buffer e j ≡ put (buffer d i) u
     → buffer f k ≡ put (buffer e j) v → buffer g l ≡ put (buffer f k) w → i ≤ length d → buffer g l ≡ put (buffer d i) (u ++ (v ++ w))
 three d i u v w p q r h = after d i (u ++ v) w (after d i u v p q h) r h ∙ ap (put (buffer d i)) (append_assoc u v w)
+
+-- ---- the bytes of a slice
+
+pub bytes-more : (d e w : List ℕ) (i j : ℕ) → j < length w → i + length w ≤ length d → length e ≡ length d
+    → buffer e (i + j) ≡ put (buffer d i) (take j w) → buffer (set e (i + j) (get_or w j 0)) (i + (j + 1)) ≡ put (buffer d i) (take (j + 1) w)
+bytes-more d e w i j l room long p =
+    let b : ℕ = get_or w j 0 in
+    let n : length (take j w) ≡ j = length-take-le j w (omega arith) in
+    let m : length (take j w ++ (b ∷ [])) ≡ j + 1 = length-append (take j w) (b ∷ []) ∙ ap (λ (k : ℕ). k + 1) n in
+    same {d = set e (i + j) b} refl (omega arith)
+    ∙ put_byte e (i + j) b (omega arith)
+    ∙ ap (λ (z : Buffer). put z (b ∷ [])) p
+    ∙ put-put d i (take j w) (b ∷ []) (omega arith)
+    ∙ ap (put (buffer d i)) (sym (rw add-one (take-suc w j 0 l)))
 
 -- ---- a number in decimal
 

@@ -11,9 +11,11 @@ pub fn put_bytes(out: &mut [u8], at: usize, bytes: &[u8]) -> usize
     requires { at + length bytes.now ≤ length out.old }
     ensures { buffer out.new result ≡ put (buffer out.old at) bytes.now }
 {
-    let end = at + bytes.len();
-    out[at..end].copy_from_slice(bytes);
-    end
+    // Byte by byte: std's `copy_from_slice` has the archives for C need `memmove`.
+    for j in 0..bytes.len() {
+        out[at + j] = bytes[j];
+    }
+    at + bytes.len()
 }
 
 // A number in decimal.
@@ -50,9 +52,9 @@ pub fn put_bits(out: &mut [u8], at: usize, width: u32, value: &[u64], unknown: &
         ≡ put (buffer out.old at) (bit_digits (from_planes width value.now unknown.now)) }
 {
     let count = width as usize;
-    for k in 0..count {
-        let bit = bits::unchecked::get(width, value, unknown, count - 1 - k);
-        out[at + k] = bit_byte(bit);
+    for k in (0..count).rev() {
+        let bit = bits::unchecked::get(width, value, unknown, k);
+        out[at + (count - 1 - k)] = bit_byte(bit);
     }
     at + count
 }

@@ -154,7 +154,10 @@ pub fn copy_front(plane: &mut [u64], from: &[u64], n: usize)
     requires { (n ≤ length from.now) × (n ≤ length plane.old) }
     ensures { plane.new ≡ take n from.now ++ drop n plane.old }
 {
-    plane[..n].copy_from_slice(&from[..n]);
+    // Word by word: std's `copy_from_slice` has the archives for C need `memmove`.
+    for i in 0..n {
+        plane[i] = from[i];
+    }
 }
 
 // The word that starts at bit `pos` of a plane; 0 beyond its end.

@@ -36,7 +36,7 @@ returns-in-True c =
     let a = c.args in
     let first : truth_of (from_planes a.a.width a.av.now a.au.now) ≡ True = cc in
     rw (← c.in-Select.ensures, first)
-    (ap₂ lent c.copy_from_slice.ensures.after c.copy_from_slice-in-True.ensures.after
+    (ap₂ lent c.copy_words.ensures c.copy_words-in-True.ensures
     ∙ planes-again a.b.width a.bv.now a.bu.now c.requires.plane_2.0 c.requires.plane_2.1 (λ i. (c.type_inv.bv i).fits) (λ i. (c.type_inv.bu i).fits))
 
 pub returns-in-False : goal.returns-in-False
@@ -44,7 +44,7 @@ returns-in-False c =
     let a = c.args in
     let first : truth_of (from_planes a.a.width a.av.now a.au.now) ≡ False = cc in
     rw (← c.in-Select.ensures, first)
-    (ap₂ lent c.copy_from_slice-in-False.ensures.after c.copy_from_slice-in-False-2.ensures.after
+    (ap₂ lent c.copy_words-in-False.ensures c.copy_words-in-False-2.ensures
     ∙ planes-again a.c.width a.cv.now a.cu.now c.requires.plane_3.0 c.requires.plane_3.1 (λ i. (c.type_inv.cv i).fits) (λ i. (c.type_inv.cu i).fits))
 
 -- a splice, by other names of what it goes by
@@ -57,6 +57,6 @@ returns-in-Insert c =
     let a = c.args in
     rw (← c.in-Insert.ensures)
     (splice-again a.a.width a.pos _ _ _ c.splice64.ensures
-    _ (ap₂ lent c.copy_from_slice-in-Insert.ensures.after c.copy_from_slice-in-Insert-2.ensures.after)
+    _ (ap₂ lent c.copy_words-in-Insert.ensures c.copy_words-in-Insert-2.ensures)
     a.b.width (omega arith)
     _ (c.operand_word-bits.ensures ∙ first_word (at (from_planes a.b.width a.bv.now a.bu.now))))

@@ -14,7 +14,7 @@ loop-k-init c =
     let a = c.args in
     let bs = from_planes a.width a.value.now a.unknown.now in
     let e : length bs ≡ a.width = length-planes a.width a.value.now a.unknown.now in
-    same refl (omega arith) ∙ bits_none a.out.now a.at bs (a.width - 0) (omega arith)
+    same refl (omega arith) ∙ bits_none a.out.now a.at bs a.width (omega arith)
 
 pub loop-k-preserved : goal.loop-k-preserved
 loop-k-preserved c =
@@ -22,9 +22,9 @@ loop-k-preserved c =
     let l = c.loop-k in
     let bs = from_planes a.width a.value.now a.unknown.now in
     let n : length bs ≡ a.width = length-planes a.width a.value.now a.unknown.now in
-    let k : ℕ = a.width - 1 - l.k in
-    let e : a.width - l.k ≡ suc k = omega arith in
-    let f : a.width - (l.k + 1) ≡ k = omega arith in
-    let p : buffer l.out (a.at + l.k) ≡ with_bits a.out.now a.at bs (suc k) = l.invariant ∙ ap (with_bits a.out.now a.at bs) e in
-    rw (f, c.bit_byte.ensures ∙ ap bit_byte c.get-bit.ensures)
-    (same refl (omega arith) ∙ bits-more a.out.now a.at bs l.out (a.at + l.k) k (omega arith) (omega (arith, c.requires.width_in_bounds)) l.auto.out p)
+    let k : ℕ = l.k - 1 in
+    let e : l.k ≡ suc k = omega arith in
+    let j : a.at + (a.width - 1 - k) ≡ a.at + (a.width - l.k) = omega arith in
+    let p : buffer l.out (a.at + (a.width - l.k)) ≡ with_bits a.out.now a.at bs (suc k) = l.invariant ∙ ap (with_bits a.out.now a.at bs) e in
+    rw (j, c.bit_byte.ensures ∙ ap bit_byte c.get-bit.ensures)
+    (same refl (omega arith) ∙ bits-more a.out.now a.at bs l.out (a.at + (a.width - l.k)) k (omega arith) (omega (arith, c.requires.width_in_bounds)) l.auto.out p)

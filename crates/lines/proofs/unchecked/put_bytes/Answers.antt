@@ -1,20 +1,23 @@
--- `lines::unchecked::put_bytes`: the bytes stand in the middle of the buffer.
-use mathlib.Core.Path.{◌≡◌, refl}
-use mathlib.Core.List.{List, ◌++◌, append_assoc}
-use Prim.Native.Nat.{ℕ, ◌+◌, ◌-◌}
+-- `lines::unchecked::put_bytes`: the first j bytes are written.
+use mathlib.Core.Path.{◌≡◌, refl, sym, ap, ◌∙◌}
 use native.Mathlib.Omega.{arith}
-use borrow.Rule.Slice.PartMut.{put_mid}
-use lib.ListN.{length, take, drop}
-use lib.Seq.{drop-drop}
-use Rattle.lines.specs.Buffer.{put}
-use Rattle.lines.proofs.Put.{same}
+use lib.ListN.{length}
+use lib.Seq.{take_all}
+use Rattle.lines.specs.Buffer.{buffer, put}
+use Rattle.lines.proofs.Put.{same, put-none, bytes-more}
 use Rattle.lines.proofs.unchecked.put_bytes.Goals as goal
 
-middle : (d w v : List ℕ) (at k : ℕ) → k ≡ length w → v ≡ w → put_mid at k d v ≡ take at d ++ w ++ drop (at + length w) d
-middle d w v at k e f = rw (e, f, drop-drop (length w) at d, append_assoc (take at d) w (drop (at + length w) d))
+pub loop-j-init : goal.loop-j-init
+loop-j-init c = same refl (omega arith) ∙ sym (put-none _ _)
+
+pub loop-j-preserved : goal.loop-j-preserved
+loop-j-preserved c =
+    let a = c.args in
+    let l = c.loop-j in
+    bytes-more a.out.now l.out a.bytes.now a.at l.j (omega arith) c.requires l.auto.out l.invariant
 
 pub returns : goal.returns
-unfolding put
 returns c =
     let a = c.args in
-    same (middle a.out.now a.bytes.now c.copy_from_slice.new.self a.at (a.at + length a.bytes.now - a.at) (omega arith) c.copy_from_slice.ensures.after) refl
+    let e : c.loop-j.j ≡ length a.bytes.now = omega arith in
+    rw (← e) (c.loop-j.invariant ∙ ap (put (buffer a.out.now a.at)) (take_all c.loop-j.j a.bytes.now (omega arith)))
