@@ -18,7 +18,8 @@ import tempfile
 # what stands for what in a body; the first that is found at the drawn place is taken
 CODE = [
     (r" < ", " <= "), (r" <= ", " < "), (r" == ", " != "), (r" != ", " == "), (r" \+ 1\b", " + 2"), (r" - 1\b", " - 0"),
-    (r" & ", " | "), (r" \| ", " & "), (r" \^ ", " | "), (r" % ", " / "), (r" / ", " % "), (r" >> ", " << "),
+    (r" & ", " | "), (r" \| ", " & "), (r" && ", " || "), (r" \|\| ", " && "), (r" \^ ", " | "), (r" % ", " / "), (r" / ", " % "), (r" >> ", " << "),
+    (r"\.min\(", ".max("), (r"\.max\(", ".min("),
     (r"\btrue\b", "false"), (r"\bfalse\b", "true"), (r"\bLogicBit::X\b", "LogicBit::Z"), (r"\bLogicBit::Zero\b", "LogicBit::One"),
     (r"\bvalue\b(?=[,)])", "unknown"), (r"\bunknown\b(?=[,)])", "value"), (r"\bav\b(?=[,)\[])", "au"), (r"\bbu\b(?=[,)\[])", "bv"),
     (r"(?<![\w\[;.])(\d+)(?![\w.])", None), (r"\bfirst\b(?=[,\[])", "second"), (r"\bsecond\b(?=[,\[)])", "first"),
@@ -43,13 +44,17 @@ def crates():
 
 
 def bodies(path):
-    """The lines of each function's body in a source file: its name, and the numbers of its lines."""
+    """The lines of the body of each function that has a contract, in a source file: its name, and the numbers of its lines. The contract of a
+    conversion stands in its impl, so its body begins on the line of its name."""
     lines = open(path).read().split("\n")
-    name, inside, found = None, False, []
+    name, inside, converts, found = None, False, False, []
     for i, line in enumerate(lines):
         start = re.match(r"(\s*)(?:pub )?(?:extern \"C\" )?fn (\w+)", line)
+        if not inside and (line == "}" or re.match(r"\s+ghost \w+ = \{", line)):
+            converts = line != "}"
         if start and not inside:
             name, indent, numbers = start.group(2), start.group(1), []
+            inside = converts and line.endswith("{")
         elif name and line == indent + "{":
             inside = True
         elif inside and line == indent + "}":
