@@ -7,7 +7,7 @@
 
 // `bit` of document 01: a four-state bit and the single-bit rules.
 pub mod bitcode {
-    // 0, 1, x or z.
+    // 0, 1, x or z. Its code, 0, 1, 2 for x or 3 for z, is its `u8::from`; the bit of a code modulo 4 is its `LogicBit::from`.
     pub use entries::LogicBit;
     // 0 if either is 0, 1 if both are 1, else x.
     pub use entries::and;
